@@ -1,0 +1,3 @@
+mod Dials
+mod Opens
+mod Plays
