@@ -2,7 +2,7 @@
 use Rattle.std.proofs.Common.{◌≡◌, ℕ, ◌^◌, ◌<◌, Bool, true, ◌&&◌, leb, List, [], ◌∷◌, ◌++◌, length, Some, codes, decimal, refl, ap, ◌∙◌, arith, lit<}
 use Rattle.std.specs.Option.{option_map}
 use Rattle.std.specs.Char.{is_ascii_digit}
-use Rattle.std.specs.List.{AllByRecursion as All}
+use Rattle.std.specs.List.{AllByRecursion}
 use Rattle.std.specs.Str.{all_ascii_digits}
 use Rattle.std.proofs.ByRecursion.{All-append}
 use Rattle.std.proofs.lemmas.Bool.{and_parts, both_ways, leb-true}
@@ -60,7 +60,7 @@ reply_back (Machine time machine said) h =
 
 -- a word with no space and no newline in it
 abbrev Clear : List ℕ → Type 0
-Clear w = All (λ b. (b ≡ 32 → ⊥) × (b ≡ 10 → ⊥)) w
+Clear w = AllByRecursion (λ b. (b ≡ 32 → ⊥) × (b ≡ 10 → ⊥)) w
 
 clear_digits : (w : List ℕ) → all_ascii_digits w ≡ true → Clear w
 clear_digits [] e = tt
@@ -86,12 +86,12 @@ clear_letters (b ∷ bs) e =
 clear_stamped : (time : ℕ) → time < 2 ^ 64 → Clear (stamped time)
 clear_stamped time h = All-append (λ b. (b ≡ 32 → ⊥) × (b ≡ 10 → ⊥)) (decimal time) (58 ∷ []) (clear_decimal time h) (((λ s. omega arith), (λ s. omega arith)), tt)
 
-clear_said : (said : Said) → SaidFits said → All Clear (said_words said)
+clear_said : (said : Said) → SaidFits said → AllByRecursion Clear (said_words said)
 clear_said Ok h = (clear_letters (codes "ok") refl, tt)
 clear_said (Number n) h = (clear_letters (codes "number") refl, (clear_decimal n h, tt))
 clear_said (Span low high) h = (clear_letters (codes "span") refl, (clear_decimal low h.0, (clear_decimal high h.1, tt)))
 
-clear_reply : (reply : Reply) → ReplyFits reply → All Clear (reply_words reply)
+clear_reply : (reply : Reply) → ReplyFits reply → AllByRecursion Clear (reply_words reply)
 clear_reply (Plain said) h = clear_said said h
 clear_reply (World time said) h = (clear_stamped time h.0, clear_said said h.1)
 clear_reply (Machine time machine said) h = (clear_stamped time h.0, (clear_decimal machine h.1, clear_said said h.2))
@@ -100,22 +100,22 @@ whole : (w : List ℕ) → Clear w → Whole w
 whole [] h = tt
 whole (b ∷ bs) h = (h.0.0, whole bs h.1)
 
-all_wholes : (ws : List (List ℕ)) → All Clear ws → All Whole ws
+all_wholes : (ws : List (List ℕ)) → AllByRecursion Clear ws → AllByRecursion Whole ws
 all_wholes [] h = tt
 all_wholes (w ∷ ws) h = (whole w h.0, all_wholes ws h.1)
 
 abbrev OneLine : List ℕ → Type 0
-OneLine bs = All (λ b. b ≡ 10 → ⊥) bs
+OneLine bs = AllByRecursion (λ b. b ≡ 10 → ⊥) bs
 
 one_line : (w : List ℕ) → Clear w → OneLine w
 one_line [] h = tt
 one_line (b ∷ bs) h = (h.0.1, one_line bs h.1)
 
-spaced_line : (ws : List (List ℕ)) → All Clear ws → OneLine (spaced ws)
+spaced_line : (ws : List (List ℕ)) → AllByRecursion Clear ws → OneLine (spaced ws)
 spaced_line [] h = tt
 spaced_line (w ∷ ws) h = ((λ s. omega arith), All-append (λ b. b ≡ 10 → ⊥) w (spaced ws) (one_line w h.0) (spaced_line ws h.1))
 
-joined_line : (ws : List (List ℕ)) → All Clear ws → OneLine (joined ws)
+joined_line : (ws : List (List ℕ)) → AllByRecursion Clear ws → OneLine (joined ws)
 joined_line [] h = tt
 joined_line (w ∷ ws) h = All-append (λ b. b ≡ 10 → ⊥) w (spaced ws) (one_line w h.0) (spaced_line ws h.1)
 

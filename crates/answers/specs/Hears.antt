@@ -1,7 +1,7 @@
 -- Answers, read back from their words.
 use Rattle.std.specs.Prelude.{◌≡◌, ℕ, ◌^◌, ◌<◌, cond, List, [], ◌∷◌, Some, None, codes, Option, ◌==◌, ◌≢◌}
 use Rattle.std.specs.Option.{option_map}
-use Rattle.std.specs.List.{AllByRecursion as All}
+use Rattle.std.specs.List.{AllByRecursion}
 use Rattle.std.specs.Str.{bytes_eq}
 use Rattle.words.specs.Numbers.{number_of, then, one_of, two_of}
 use Rattle.words.specs.Words.{words_of, joined}
@@ -63,4 +63,4 @@ ReplyFits (Machine time machine said) = (time < 2 ^ 64) × (machine < 2 ^ 64) ×
 
 -- the line of an answer has no newline (10) before the one that ends it, and its words read back as that answer
 abbrev pub ReadsBack : Reply → Type 0
-ReadsBack reply = ReplyFits reply → All (λ b. b ≢ 10) (joined (reply_words reply)) × (reply_of (words_of (joined (reply_words reply))) ≡ Some reply)
+ReadsBack reply = ReplyFits reply → AllByRecursion (λ b. b ≢ 10) (joined (reply_words reply)) × (reply_of (words_of (joined (reply_words reply))) ≡ Some reply)

@@ -7,6 +7,8 @@
 //! asks nothing of its caller. Each answer is one line, and its words read back as the answer that they were written from.
 //!
 //! The parts of a line are appended one after another; where memory runs out in the middle, what was appended is taken back.
+#![tactic(auto)]
+
 ghost use Rattle.std.specs.Prelude.{◌≡◌, ◌+◌, ◌<◌, [], ◌∷◌, ◌++◌, take, is_ok, if◌then◌else◌, Some, codes, decimal};
 ghost use Rattle.answers.specs.Answers.{Grew, reply_words, said_words, spoken, stamped};
 ghost use Rattle.answers.specs.Hears.{ReadsBack};

@@ -2,6 +2,8 @@
 //!
 //! One table, `plays`, has them all. It is the table of specs/Table, about which one theorem says that every row comes out by the definitions
 //! that the contracts of `world` cite; the test runs the same table on the code.
+#![tactic(auto)]
+
 ghost use Rattle.std.specs.Prelude.{◌≡◌};
 ghost use Rattle.cases.specs.Met.{PremisesMet};
 ghost use Rattle.cases.specs.Table.{all_cases, setup_of, setup_with, plays_of, EveryRow};

@@ -7,6 +7,8 @@
 //! Promised: `Span::grown` is the rule of growth, and the grown span holds the true time as long as the clock runs within its
 //! rate (`growth_holds`); a `Clock` that counts at a pace within the rate runs within it, however often its pace changes
 //! (`counting_runs`).
+#![tactic(auto)]
+
 pub mod counting;
 pub mod growth;
 pub mod rates;

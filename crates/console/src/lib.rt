@@ -5,6 +5,9 @@
 //!
 //! No contract can say what is read or written, so nothing is promised here but that it is safe and ends; the programs' runs on stored
 //! input show the rest.
+#![tactic(auto)]
+
+use anyhow::anyhow;
 use std::alloc::{AllocError, Global};
 use std::io;
 use std::io::{BufRead, BufReader, Read, Write};
@@ -23,12 +26,9 @@ fn trimmed(line: &[u8]) -> &[u8] {
     }
 }
 
-// What went wrong, with the system's own words behind it where there is memory for them.
-fn wrong(heap: Global, what: &str, error: io::Error) -> anyhow::Error {
-    match format!(in heap; "{what}: {error}") {
-        Ok(text) => text.into(),
-        Err(_) => what.into(),
-    }
+// What went wrong, with the system's own words behind it.
+fn wrong(what: &str, error: io::Error) -> anyhow::Error {
+    anyhow!("{what}: {error}")
 }
 
 /// Answers the lines of an input, to its end.
@@ -47,12 +47,12 @@ pub fn serve<R: Read + Drop, W: Write, P: Program>(
         match input.read_until(b'\n', &mut line) {
             Ok(0) => break,
             Ok(_) => {}
-            Err(error) => return Err(wrong(heap, "the input cannot be read", error)),
+            Err(error) => return Err(wrong("the input cannot be read", error)),
         }
         program.answer(trimmed(line.as_slice()), &mut out)?;
         if !input.buffer().contains(&b'\n') {
             if let Err(error) = output.write_all(out.as_slice()) {
-                return Err(wrong(heap, "the answers cannot be written", error));
+                return Err(wrong("the answers cannot be written", error));
             }
             out.clear();
         }

@@ -1,7 +1,7 @@
 -- Requests to the program `rehearse`, written and read.
 use Rattle.std.proofs.Common.{◌≡◌, ℕ, ◌^◌, ◌<◌, false, List, [], ◌∷◌, map, length, Some, None, codes, decimal, sym, refl, ap, ◌∙◌, subst, arith, lit<}
 use Rattle.std.specs.Option.{option_map}
-use Rattle.std.specs.List.{AllByRecursion as All}
+use Rattle.std.specs.List.{AllByRecursion}
 use Rattle.std.specs.Str.{bytes_eq}
 use Rattle.words.specs.Numbers.{number_of, plain, then, one_of}
 use Rattle.words.specs.Words.{joined, words_of}
@@ -98,7 +98,7 @@ begins (Span a) = refl
 begins (Fast a b) = refl
 begins (Slow a b) = refl
 
-good : (q : ScriptRequest) → ScriptFits q → All Good (script_words q)
+good : (q : ScriptRequest) → ScriptFits q → AllByRecursion Good (script_words q)
 good (World a b c d) h = (good_key (codes "world") refl refl, (good_decimal a h.0, (good_decimal b h.1, (good_decimal c h.2, (good_decimal d h.3, tt)))))
 good (Pass a) h = (good_key (codes "pass") refl refl, (good_decimal a h, tt))
 good (Ask a b) h = (good_key (codes "ask") refl refl, (good_decimal a h.0, (good_decimal b h.1, tt)))

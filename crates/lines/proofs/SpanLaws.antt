@@ -1,7 +1,7 @@
 -- Requests to the program `span`, written and read.
 use Rattle.std.proofs.Common.{◌≡◌, ℕ, ◌<◌, false, List, [], ◌∷◌, length, Some, None, codes, refl, ap, ◌∙◌, lit<}
 use Rattle.std.specs.Option.{option_map}
-use Rattle.std.specs.List.{AllByRecursion as All}
+use Rattle.std.specs.List.{AllByRecursion}
 use Rattle.std.specs.Str.{bytes_eq}
 use Rattle.words.specs.Words.{joined, words_of}
 use Rattle.words.proofs.Good.{Good, good_key, good_decimal}
@@ -47,7 +47,7 @@ begins (Asked a b) = refl
 begins (Answer a b c d) = refl
 begins (Now a) = refl
 
-good : (q : SpanRequest) → SpanFits q → All Good (span_words q)
+good : (q : SpanRequest) → SpanFits q → AllByRecursion Good (span_words q)
 good (Asked a b) h = (good_key (codes "asked") refl refl, (good_decimal a h.0, (good_decimal b h.1, tt)))
 good (Answer a b c d) h = (good_key (codes "answer") refl refl, (good_decimal a h.0, (good_decimal b h.1, (good_decimal c h.2, (good_decimal d h.3, tt)))))
 good (Now a) h = (good_key (codes "now") refl refl, (good_decimal a h, tt))

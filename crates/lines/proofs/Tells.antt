@@ -1,7 +1,7 @@
 -- What holds of lines, whatever requests they are read as.
 use Rattle.std.proofs.Common.{◌≡◌, ℕ, ◌^◌, ◌<◌, Bool, true, false, cond, List, [], ◌∷◌, map, length, Some, None, decimal, Option, sym, refl, ap, ◌∙◌, subst, arith}
 use Rattle.std.specs.Option.{option_map}
-use Rattle.std.specs.List.{AllByRecursion as All}
+use Rattle.std.specs.List.{AllByRecursion}
 use Rattle.std.specs.Str.{bytes_eq}
 use Rattle.std.proofs.lemmas.Slice.Eq.{bytes_eq-Decides}
 use Rattle.std.proofs.lemmas.Bool.{cond-false}
@@ -64,7 +64,7 @@ module _ {R : Type 0} (written : R → List (List ℕ)) (Fits : R → Type 0) wh
     told_on bs r e on = subst (Told written Fits bs) (sym e) (by_request bs on (read (words_of bs)) refl)
 
     -- what a request is written as is read as it
-    module _ (some : (q : R) → 0 < length (written q)) (begins : (q : R) → skipped (joined (written q)) ≡ false) (good : (q : R) → Fits q → All Good (written q)) where
+    module _ (some : (q : R) → 0 < length (written q)) (begins : (q : R) → skipped (joined (written q)) ≡ false) (good : (q : R) → Fits q → AllByRecursion Good (written q)) where
       pub read_back : ReadsBack written Fits (line_by read)
       read_back q fits =
           let ws : List (List ℕ) = written q in

@@ -8,6 +8,8 @@
 //! request has a line that reads back as it.
 //!
 //! Each kind of line is read by a small function from what is left behind its keyword, and the keywords of a program stand in one place.
+#![tactic(auto)]
+
 ghost use Rattle.std.specs.Prelude.{◌≡◌};
 ghost use Rattle.std.specs.Str.{bytes_eq};
 ghost use Rattle.lines.specs.Lines.{skipped};

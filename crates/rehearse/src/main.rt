@@ -2,6 +2,8 @@
 //!
 //! Reads the script on standard input and answers each line on standard output; `--help` has an example. What a line is comes from
 //! `lines`, what happens in a world from `world`, and what a clock shows from `clocks`: here is only which call a request makes.
+#![tactic(auto)]
+
 use answers::put_reply;
 use console::{Program, report, serve};
 use std::alloc::AllocError;
@@ -52,7 +54,7 @@ fn run(rt: &HostRuntime) -> anyhow::Result<()> {
             println!(rt; "{USAGE}")?;
             return Ok(());
         }
-        return Err(MISUSED.into());
+        return Err(anyhow!(MISUSED));
     }
     let mut script = Script::new(rt.alloc());
     serve(rt.alloc(), rt.stdin(), &mut rt.stdout(), &mut script)

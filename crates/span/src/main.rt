@@ -2,6 +2,8 @@
 //!
 //! Reads lines on standard input and answers each on standard output; `--help` has an example. What a line is comes from `lines`, what a
 //! machine does from `votes`, and how an answer is written from `answers`: here is only which call a request makes (`respond`).
+#![tactic(auto)]
+
 ghost use Rattle.std.specs.Prelude.{◌≡◌, ◌*◌, ◌≤◌, MatchOption};
 ghost use Rattle.votes.specs.Exchanges.{number_of, opened};
 ghost use Rattle.votes.specs.Seen.{view};
@@ -136,7 +138,7 @@ fn run(rt: &HostRuntime) -> anyhow::Result<()> {
         }
     }
     let Some(machine) = asked_for(first, args.next(), args.next(), args.next()) else {
-        return Err(MISUSED.into());
+        return Err(anyhow!(MISUSED));
     };
     let mut machine = machine;
     serve(rt.alloc(), rt.stdin(), &mut rt.stdout(), &mut machine)

@@ -6,6 +6,8 @@
 //!
 //! Promised: every call is its definition in specs/Exchanges, for refusals too, which change nothing; and `Votes::span` gives a span that
 //! holds the true time whenever at most f of the servers are faulty and the clock keeps within its error (specs/Promise).
+#![tactic(auto)]
+
 pub mod calls;
 mod counts;
 pub mod types;

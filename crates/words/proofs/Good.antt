@@ -1,7 +1,7 @@
 -- Words that are written as they are read: keywords and digits with no zeros in front.
 use Rattle.std.proofs.Common.{◌≡◌, ℕ, ◌^◌, ◌<◌, Bool, true, not, ◌&&◌, eqb, List, [], ◌∷◌, map, None, decimal, refl, ap}
 use Rattle.std.specs.Char.{is_ascii_digit}
-use Rattle.std.specs.List.{AllByRecursion as All}
+use Rattle.std.specs.List.{AllByRecursion}
 use Rattle.std.specs.Str.{all_ascii_digits}
 use Rattle.std.proofs.lemmas.Bool.{and_parts, eqb-false, not-true, both_ways}
 use Rattle.words.specs.Laws.{Whole}
@@ -34,10 +34,10 @@ good_key key n s = record { same = ap (plain_by key) n; whole = whole_by key s }
 pub good_decimal : (n : ℕ) → n < 2 ^ 64 → Good (decimal n)
 good_decimal n h = record { same = plain_number (decimal n) n (numbers_read_back_lem n h); whole = whole_digits (decimal n) (decimal_digits n h) }
 
-pub all_same : (ws : List (List ℕ)) → All Good ws → map plain ws ≡ ws
+pub all_same : (ws : List (List ℕ)) → AllByRecursion Good ws → map plain ws ≡ ws
 all_same [] h = refl
 all_same (w ∷ ws) h = λ i. h.0.same i ∷ all_same ws h.1 i
 
-pub all_whole : (ws : List (List ℕ)) → All Good ws → All Whole ws
+pub all_whole : (ws : List (List ℕ)) → AllByRecursion Good ws → AllByRecursion Whole ws
 all_whole [] h = tt
 all_whole (w ∷ ws) h = (h.0.whole, all_whole ws h.1)

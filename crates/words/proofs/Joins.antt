@@ -1,6 +1,6 @@
 -- Words are joined to a line, and a line is cut into its words.
 use Rattle.std.proofs.Common.{◌≡◌, ℕ, ◌<◌, Bool, true, false, cond, eqb, List, [], ◌∷◌, ◌++◌, length, sym, refl, ap, ◌∙◌, append-nil, arith}
-use Rattle.std.specs.List.{AllByRecursion as All}
+use Rattle.std.specs.List.{AllByRecursion}
 use Rattle.std.proofs.lemmas.Bool.{eqb-true, eqb-false}
 use Rattle.words.specs.Words.{words_of, onto, spaced, joined}
 use Rattle.words.specs.Laws.{Whole, WordsReadBack, LinesReadBack}
@@ -27,12 +27,12 @@ joined_onto : (b : ℕ) (ws : List (List ℕ)) → joined (onto b ws) ≡ b ∷ 
 joined_onto b [] = refl
 joined_onto b (w ∷ ws) = refl
 
-whole_onto : (b : ℕ) (ws : List (List ℕ)) → (b ≡ 32 → ⊥) → All Whole ws → All Whole (onto b ws)
+whole_onto : (b : ℕ) (ws : List (List ℕ)) → (b ≡ 32 → ⊥) → AllByRecursion Whole ws → AllByRecursion Whole (onto b ws)
 whole_onto b [] n h = ((n, tt), tt)
 whole_onto b (w ∷ ws) n h = ((n, h.0), h.1)
 
 -- one more byte in front, by whether it is a space
-more : (b : ℕ) (bs : List ℕ) (t : Bool) → eqb b 32 ≡ t → All Whole (words_of bs) × (joined (words_of bs) ≡ bs) → All Whole (cond t ([] ∷ words_of bs) (onto b (words_of bs))) × (joined (cond t ([] ∷ words_of bs) (onto b (words_of bs))) ≡ b ∷ bs)
+more : (b : ℕ) (bs : List ℕ) (t : Bool) → eqb b 32 ≡ t → AllByRecursion Whole (words_of bs) × (joined (words_of bs) ≡ bs) → AllByRecursion Whole (cond t ([] ∷ words_of bs) (onto b (words_of bs))) × (joined (cond t ([] ∷ words_of bs) (onto b (words_of bs))) ≡ b ∷ bs)
 more b bs true e h = ((tt, h.0), spaced_some (words_of bs) (has_word bs) ∙ ap (λ x. 32 ∷ x) h.1 ∙ ap (λ x. x ∷ bs) (sym (eqb-true b 32 e)))
 more b bs false e h = (whole_onto b (words_of bs) (eqb-false b 32 e) h.0, joined_onto b (words_of bs) ∙ ap (λ x. b ∷ x) h.1)
 
@@ -41,6 +41,6 @@ lines_read_back [] = ((tt, tt), refl)
 lines_read_back (b ∷ bs) = more b bs (eqb b 32) refl (lines_read_back bs)
 
 -- the same of words in one list
-pub joined_words : (ws : List (List ℕ)) → 0 < length ws → All Whole ws → words_of (joined ws) ≡ ws
+pub joined_words : (ws : List (List ℕ)) → 0 < length ws → AllByRecursion Whole ws → words_of (joined ws) ≡ ws
 joined_words [] some h = absurd (omega arith)
 joined_words (w ∷ ws) some h = words_read_back_lem w ws h

@@ -1,12 +1,12 @@
 -- What is written reads back.
 use Rattle.std.specs.Prelude.{◌≡◌, ℕ, ◌^◌, ◌<◌, List, ◌∷◌, Some, decimal, ◌≢◌, slice_index}
-use Rattle.std.specs.List.{AllByRecursion as All}
+use Rattle.std.specs.List.{AllByRecursion}
 use Rattle.words.specs.Numbers.{number_of}
 use Rattle.words.specs.Words.{words_of, joined}
 
 -- a word with no space in it
 abbrev pub Whole : List ℕ → Type 0
-Whole w = All (λ b. b ≢ 32) w
+Whole w = AllByRecursion (λ b. b ≢ 32) w
 
 -- the digits that `{n}` writes of a number are read as that number
 abbrev pub NumbersReadBack : Type 0
@@ -18,8 +18,8 @@ NoZeroInFront = (n : ℕ) → n < 2 ^ 64 → 0 < n → 48 < slice_index (decimal
 
 -- words that are joined to a line are its words
 abbrev pub WordsReadBack : Type 0
-WordsReadBack = (w : List ℕ) (ws : List (List ℕ)) → All Whole (w ∷ ws) → words_of (joined (w ∷ ws)) ≡ w ∷ ws
+WordsReadBack = (w : List ℕ) (ws : List (List ℕ)) → AllByRecursion Whole (w ∷ ws) → words_of (joined (w ∷ ws)) ≡ w ∷ ws
 
 -- the words of a line have no space in them, and joined they are the line
 abbrev pub LinesReadBack : Type 0
-LinesReadBack = (bs : List ℕ) → All Whole (words_of bs) × (joined (words_of bs) ≡ bs)
+LinesReadBack = (bs : List ℕ) → AllByRecursion Whole (words_of bs) × (joined (words_of bs) ≡ bs)

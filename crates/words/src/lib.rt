@@ -9,6 +9,8 @@
 //!
 //! What is left of a line behind a word is an `Option`: `None` where no space follows, and else what stands behind the space. A reader
 //! takes what is left and gives back what is left behind what it read, so that the words of a request are read by `?`.
+#![tactic(auto)]
+
 ghost use Rattle.std.specs.Prelude.{◌≡◌, ◌+◌, ◌-◌, ◌*◌, ◌^◌, ◌≤◌, ◌&&◌, [], ◌∷◌, length, take, drop, if◌then◌else◌, Some, None, nat_lt};
 ghost use Rattle.std.specs.Option.{option_map};
 ghost use Rattle.std.specs.Char.{is_ascii_digit};

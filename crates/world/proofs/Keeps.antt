@@ -7,7 +7,6 @@ use Rattle.votes.specs.declared.types.Answer.{Answer}
 use Rattle.votes.specs.declared.types.Exchange.{Exchange}
 use Rattle.votes.specs.declared.types.Known.TheVariants as known
 use Rattle.votes.specs.Exchanges.{exchange, blank}
-use Rattle.world.specs.declared.actions.Action.TheVariants as action
 use Rattle.world.specs.declared.machine.Moments.{Moments}
 use Rattle.world.specs.Step.{MachineView, never, moment_of}
 use Rattle.world.specs.Promise.{Noted}

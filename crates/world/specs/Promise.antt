@@ -1,7 +1,6 @@
 -- What is promised of a world, over every list of actions.
 use Rattle.std.specs.Prelude.{◌≡◌, ℕ, ◌<◌, ◌≤◌, true, List, [], ◌∷◌, length, Some, Ok, Err, Result}
 use Rattle.std.specs.List.{range_with_len}
-use Rattle.clocks.specs.declared.growth.Span.{Span}
 use Rattle.clocks.specs.Time.{RunsFrom, Holds}
 use Rattle.votes.specs.declared.types.Ask.{Ask}
 use Rattle.votes.specs.declared.types.Answer.{Answer}

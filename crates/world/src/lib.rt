@@ -10,6 +10,8 @@
 //!
 //! `actions` has what happens and what comes of it, `machine` one machine with the true times of its exchanges noted beside it, `stage`
 //! the machines of a world, and `types` and `play` the world that some list of actions led to.
+#![tactic(auto)]
+
 pub mod actions;
 mod machine;
 pub mod play;

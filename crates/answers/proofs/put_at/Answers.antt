@@ -3,4 +3,4 @@ use Rattle.answers.proofs.Grows.{then_grew}
 use Rattle.answers.proofs.put_at.Goals as goal
 
 pub returns : goal.returns
-returns c = then_grew (vec_items c.args.out.now) _ (vec_items c.put-time.new.out) _ _ (vec_items c.put-behind.new.out) refl c.in-ok-put-time.ensures.wrote c.put-behind.ensures
+returns c = then_grew (vec_items c.args.out.now) _ (vec_items c.put_time.new.out) _ _ (vec_items c.put_behind.new.out) refl c.in_ok-put_time.ensures.wrote c.put_behind.ensures

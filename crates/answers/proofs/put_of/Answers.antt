@@ -3,4 +3,4 @@ use Rattle.answers.proofs.Grows.{then_grew}
 use Rattle.answers.proofs.put_of.Goals as goal
 
 pub returns : goal.returns
-returns c = then_grew (vec_items c.args.out.now) _ (vec_items c.put-time.new.out) _ _ (vec_items c.put-machine.new.out) refl c.in-ok-put-time.ensures.wrote c.put-machine.ensures
+returns c = then_grew (vec_items c.args.out.now) _ (vec_items c.put_time.new.out) _ _ (vec_items c.put_machine.new.out) refl c.in_ok-put_time.ensures.wrote c.put_machine.ensures

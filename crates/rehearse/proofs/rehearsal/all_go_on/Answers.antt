@@ -5,9 +5,9 @@ use Rattle.clocks.specs.Seen.{view}
 use Rattle.rehearse.proofs.Dials.{go_stops, go_next, go_end}
 use Rattle.rehearse.proofs.rehearsal.all_go_on.Goals as goal
 
-pub returns-in-default : goal.returns-in-default
-returns-in-default c =
-    sym (go_stops c.args.clocks.now c.args.by c.loop-clock.clock-index c.clock-item.result c.loop-clock-test.true c.clock-item.is c.loop-clock.invariant (let h = c.in-default.ensures in omega arith))
+pub returns-in_default : goal.returns-in_default
+returns-in_default c =
+    sym (go_stops c.args.clocks.now c.args.by c.loop-clock.clock-index c.clock-item.result c.loop-clock-test.true c.clock-item.is c.loop-clock.invariant (let h = c.in_default.ensures in omega arith))
 
 pub loop-clock-preserved : goal.loop-clock-preserved
 loop-clock-preserved c =

@@ -20,7 +20,7 @@ pub unreachable-requires : goal.unreachable-requires
 unreachable-requires c =
     let n = length-map (vec_items c.args.clocks.now) dial_of in
     let m = c.args.clocks.now.ok.0 in
-    never_stops c.args.by (map dial_of (vec_items c.args.clocks.now)) (vec_items c.loop-i.clocks) c.loop-i.i (omega arith) c.loop-i.invariant.1 c.index.result.now c.index.ensures c.requires (let h = c.in-default.ensures in omega arith)
+    never_stops c.args.by (map dial_of (vec_items c.args.clocks.now)) (vec_items c.loop-i.clocks) c.loop-i.i (omega arith) c.loop-i.invariant.1 c.index.result.now c.index.ensures c.requires (let h = c.in_default.ensures in omega arith)
 
 pub returns : goal.returns
 returns c =

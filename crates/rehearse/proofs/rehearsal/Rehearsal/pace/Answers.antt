@@ -10,11 +10,11 @@ returns-then-at-len c =
     let r = pace_refused (view c.args.self.now.world.stage) cs c.args.machine c.args.parts c.args.fast (pace_absent (view c.args.self.now.world.stage) cs c.args.machine c.args.parts c.args.fast (omega arith)) in
     record { reply = r.0; after = r.1; refused = λ e. refl }
 
-pub returns-in-default : goal.returns-in-default
-returns-in-default c =
+pub returns-in_default : goal.returns-in_default
+returns-in_default c =
     let n = c.args.self.now.clocks.ok.0 in
     let cs = vec_items c.args.self.now.clocks in
-    let r = pace_refused (view c.args.self.now.world.stage) cs c.args.machine c.args.parts c.args.fast (pace_above (view c.args.self.now.world.stage) cs c.args.machine c.args.parts c.args.fast c.index.result.now (omega arith) c.index.ensures c.in-default.ensures) in
+    let r = pace_refused (view c.args.self.now.world.stage) cs c.args.machine c.args.parts c.args.fast (pace_above (view c.args.self.now.world.stage) cs c.args.machine c.args.parts c.args.fast c.index.result.now (omega arith) c.index.ensures c.in_default.ensures) in
     record { reply = r.0; after = r.1; refused = λ e. refl }
 
 pub returns : goal.returns

@@ -7,7 +7,7 @@ pub returns : goal.returns
 returns c =
     let v = c.args.self.now in
     record {
-      value = c.chosen-by-rule.ensures;
+      value = c.chosen_by_rule.ensures;
       laws =
-          chosen_laws (view c.args.self.now) c.args.clock v.rate.small v.minority (let n = v.few in let m = v.sixteen in omega arith) c.chosen-by-rule.result c.chosen-by-rule.ensures;
+          chosen_laws (view c.args.self.now) c.args.clock v.rate.small v.minority (let n = v.few in let m = v.sixteen in omega arith) c.chosen_by_rule.result c.chosen_by_rule.ensures;
     }

@@ -17,6 +17,6 @@ returns c =
     let n = c.args.self.now.machines.ok.0 in
     let h : c.args.machine < length (vec_items c.args.self.now.machines) = omega arith in
     record {
-      reply = c.take.ensures.reply ∙ inside_reply c.args.self.now.time (vec_items c.args.self.now.machines) c.args.machine c.args.clock c.args.input c.index-mut.result.now h c.index-mut.ensures.value;
-      after = inside_step c.args.self.now.time (vec_items c.args.self.now.machines) c.args.machine c.args.clock c.args.input c.index-mut.result.now c.take.new.self h c.index-mut.ensures.value c.take.ensures.after;
+      reply = c.take.ensures.reply ∙ inside_reply c.args.self.now.time (vec_items c.args.self.now.machines) c.args.machine c.args.clock c.args.input c.index_mut.result.now h c.index_mut.ensures.value;
+      after = inside_step c.args.self.now.time (vec_items c.args.self.now.machines) c.args.machine c.args.clock c.args.input c.index_mut.result.now c.take.new.self h c.index_mut.ensures.value c.take.ensures.after;
     }

@@ -10,4 +10,4 @@ returns-then-machine-len c =
 pub returns : goal.returns
 returns c =
     let n = c.args.self.now.machines.ok.0 in
-    c.last-ask.ensures ∙ inside_ask c.args.self.now.time (vec_items c.args.self.now.machines) c.args.machine c.args.server c.index.result.now (omega arith) c.index.ensures
+    c.last_ask.ensures ∙ inside_ask c.args.self.now.time (vec_items c.args.self.now.machines) c.args.machine c.args.server c.index.result.now (omega arith) c.index.ensures

@@ -5,9 +5,9 @@ use Rattle.world.proofs.Refuses.{step_refused}
 use Rattle.world.proofs.Worlds.{reached_more, reached_true}
 use Rattle.world.proofs.types.World.act.Goals as goal
 
-pub invariant-of-self : goal.invariant-of-self
-invariant-of-self c =
-    (∥∥₁_map c.args.self.now.reached (reached_more (view c.args.self.now.stage) (view c.act.new.self) c.args.action c.act.ensures.after), tt)
+pub invariant_of-self : goal.invariant_of-self
+invariant_of-self c =
+    record { reached = ∥∥₁_map c.args.self.now.reached (reached_more (view c.args.self.now.stage) (view c.act.new.self) c.args.action c.act.ensures.after) }
 
 pub returns : goal.returns
 returns c =
