@@ -231,7 +231,10 @@ mod tests {
                 said,
             },
         )?;
-        assert!(rt; out.as_slice() == b"ok\n0: number 1\n5000: 0 span 4997 18446744073709551615\n");
+        assert!(rt;
+            out.as_slice()
+                == b"ok\n0: number 1\n5000: 0 span 4997 18446744073709551615\n".as_slice()
+        );
         Ok(())
     }
 }

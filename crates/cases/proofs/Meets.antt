@@ -1,7 +1,6 @@
 -- The premises of the promise about spans can be met.
 use Rattle.std.proofs.Common.{◌≡◌, ◌≤◌, sym, refl, ap, arith, lit<, lit≤}
 use Rattle.votes.specs.declared.types.Answer.{Answer}
-use Rattle.votes.specs.declared.types.Known.TheVariants as known
 use Rattle.votes.specs.Promise.{none, good, faulty}
 use Rattle.world.specs.Step.{run, all_valid, machine_of}
 use Rattle.world.specs.Promise.{Truthful}

@@ -7,7 +7,6 @@ use Rattle.clocks.specs.Time.{million, highest, RunsFrom}
 use Rattle.clocks.specs.Counting.{Counting, Turn, pass, change, turn, turns, fresh, shown, elapsed, Within}
 use Rattle.clocks.proofs.Counts.{counting_runs_lem}
 use Rattle.world.specs.declared.actions.Setup.{Setup}
-use Rattle.world.specs.declared.actions.Input.{Input}
 use Rattle.world.specs.declared.actions.Input.TheVariants as input
 use Rattle.world.specs.declared.actions.Action.{Action}
 use Rattle.world.specs.declared.actions.Action.TheVariants as action

@@ -1,7 +1,6 @@
 -- What is said to each request of a script, and what it leaves behind.
 use Rattle.std.specs.Prelude.{◌≡◌, ℕ, Bool, true, false, ◌⊎◌, Some, None, Ok, Err, Option, Result}
 use Rattle.std.specs.Option.{option_map}
-use Rattle.clocks.specs.declared.growth.Span.{Span}
 use Rattle.answers.specs.declared.Said.{Said}
 use Rattle.answers.specs.declared.Said.TheVariants as said
 use Rattle.answers.specs.declared.Reply.{Reply as Answer}

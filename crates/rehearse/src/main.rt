@@ -5,6 +5,7 @@
 #![tactic(auto)]
 
 use answers::put_reply;
+use anyhow::anyhow;
 use console::{Program, report, serve};
 use std::alloc::AllocError;
 use std::env;

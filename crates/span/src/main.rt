@@ -11,6 +11,7 @@ ghost use Rattle.lines.specs.Spans.{span_line};
 ghost use Rattle.span.specs.Respond.{said_of, after_of, heard, heard_after};
 
 use answers::{Reply, Said, put_reply};
+use anyhow::anyhow;
 use clocks::growth::Span;
 use clocks::rates::Rate;
 use console::{Program, report, serve};
