@@ -9,6 +9,7 @@ use anyhow::anyhow;
 use console::{Program, report, serve};
 use std::alloc::AllocError;
 use std::env;
+use std::process::ExitCode;
 
 mod rehearsal;
 mod script;
@@ -61,6 +62,10 @@ fn run(rt: &HostRuntime) -> anyhow::Result<()> {
     serve(rt.alloc(), rt.stdin(), &mut rt.stdout(), &mut script)
 }
 
-fn main(rt: HostRuntime) -> anyhow::Result<()> {
-    report(&rt, "rehearse", run(&rt))
+// `report` has said what went wrong, so `main` returns the status alone: a returned error would be printed a second time.
+fn main(rt: HostRuntime) -> ExitCode {
+    match report(&rt, "rehearse", run(&rt)) {
+        Ok(()) => ExitCode::SUCCESS,
+        Err(_) => ExitCode::FAILURE,
+    }
 }

@@ -18,6 +18,7 @@ use console::{Program, report, serve};
 use lines::{Line, SpanRequest, span_line};
 use std::alloc::AllocError;
 use std::env;
+use std::process::ExitCode;
 use votes::types::{Refusal, Votes};
 use words::number;
 
@@ -145,6 +146,10 @@ fn run(rt: &HostRuntime) -> anyhow::Result<()> {
     serve(rt.alloc(), rt.stdin(), &mut rt.stdout(), &mut machine)
 }
 
-fn main(rt: HostRuntime) -> anyhow::Result<()> {
-    report(&rt, "span", run(&rt))
+// `report` has said what went wrong, so `main` returns the status alone: a returned error would be printed a second time.
+fn main(rt: HostRuntime) -> ExitCode {
+    match report(&rt, "span", run(&rt)) {
+        Ok(()) => ExitCode::SUCCESS,
+        Err(_) => ExitCode::FAILURE,
+    }
 }
