@@ -2,7 +2,7 @@
 use Rattle.std.proofs.Common.{◌≡◌, ◌≤◌, sym, refl, ap, arith, lit<, lit≤}
 use Rattle.votes.specs.declared.types.Answer.{Answer}
 use Rattle.votes.specs.Promise.{none, good, faulty}
-use Rattle.world.specs.Step.{run, all_valid, machine_of}
+use Rattle.world.specs.Step.{run, machine_of}
 use Rattle.world.specs.Promise.{Truthful}
 use Rattle.cases.specs.Met.{after, PremisesMet}
 
@@ -19,7 +19,7 @@ lying t =
     omega arith
 
 pub premises_met_lem : PremisesMet
-unfolding run all_valid
+unfolding run
 premises_met_lem =
     record {
       runs = record { slow = λ t u s h. omega arith; fast = λ t u s h. omega arith; onward = λ t u s h. omega arith };

@@ -1,7 +1,7 @@
 -- A run that meets the premises of the promise about spans: three time servers, one of which lies, and a clock that is off.
 use Rattle.std.specs.Prelude.{◌≡◌, ℕ, ◌+◌, ◌/◌, ◌<◌, true, List, [], ◌∷◌, length}
 use Rattle.clocks.specs.Time.{RunsFrom}
-use Rattle.world.specs.declared.actions.Setup.{Setup}
+use Rattle.votes.specs.declared.types.Setup.{Setup}
 use Rattle.world.specs.declared.actions.Input.TheVariants as input
 use Rattle.world.specs.declared.actions.Action.{Action}
 use Rattle.world.specs.declared.actions.Action.TheVariants as action

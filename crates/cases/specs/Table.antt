@@ -1,14 +1,14 @@
 -- The worked cases, and the theorem about every one of them.
 use Rattle.std.specs.Prelude.{◌≡◌, ℕ, List, [], ◌∷◌, Ok, Err, Result}
 use Rattle.clocks.specs.declared.growth.Span.{Span}
-use Rattle.world.specs.declared.actions.Setup.{Setup}
+use Rattle.votes.specs.declared.types.Setup.{Setup}
 use Rattle.world.specs.declared.actions.Input.{Input}
 use Rattle.world.specs.declared.actions.Input.TheVariants as input
 use Rattle.world.specs.declared.actions.Action.TheVariants as action
 use Rattle.world.specs.declared.actions.Reply.{Reply}
 use Rattle.world.specs.declared.actions.Reply.TheVariants as reply
-use Rattle.world.specs.declared.actions.Refusal.{Refusal}
-use Rattle.world.specs.declared.actions.Refusal.TheVariants.{Invalid, WrongNumber, NoSpan}
+use Rattle.votes.specs.declared.types.Refusal.{Refusal}
+use Rattle.votes.specs.declared.types.Refusal.TheVariants.{Invalid, WrongNumber, NoSpan}
 use Rattle.world.specs.Step.{WorldView, start, reply_of, step}
 use Rattle.cases.specs.declared.Case.{Case}
 use Rattle.cases.specs.declared.Case.TheVariants.{A, B, Stays, Wraps, Refuses, Ends}

@@ -9,10 +9,11 @@ ghost use Rattle.cases.specs.Met.{PremisesMet};
 ghost use Rattle.cases.specs.Table.{all_cases, setup_of, setup_with, plays_of, EveryRow};
 
 use clocks::growth::Span;
-use world::actions::{Action, Input, Refusal, Reply, Setup};
+use votes::types::{Refusal, Setup};
+use world::actions::{Action, Input, Reply};
 
 /// The cases, each played with one machine.
-#[derive(Clone, Copy)]
+#[derive(Clone, Copy, PartialEq, Eq, Debug)]
 pub enum Case {
     /// one time server, asked at 100 and answered at 140 with 5,000 to 5,010: at 200 the span is 5,059 to 5,112
     A,
@@ -29,7 +30,7 @@ pub enum Case {
 }
 
 /// One action, and the reply that must come of it.
-#[derive(Clone, Copy)]
+#[derive(Clone, Copy, PartialEq, Eq, Debug)]
 pub struct Play {
     pub action: Action,
     pub reply: Result<Reply, Refusal>,
@@ -308,18 +309,14 @@ pub fn plays(case: Case) -> &'static [Play]
 }
 
 /// The theorem about every row.
-pub fn every_row() -> u8
+pub fn every_row()
     ensures { EveryRow }
-{
-    0
-}
+{}
 
 /// The premises of the promise about spans can be met, with a clock that is off and a time server that lies.
-pub fn premises_met() -> u8
+pub fn premises_met()
     ensures { PremisesMet }
-{
-    0
-}
+{}
 
 #[cfg(test)]
 mod tests {

@@ -23,6 +23,18 @@ abbrev pub turns : List Turn → Counting → Counting
 turns [] k = k
 turns (t ∷ ts) k = turns ts (turn t k)
 
+-- a clock, as contracts see it: how far it may be off, and how far it has counted
+pub record Dial : Type 0 where
+  pub rate : ℕ
+  pub counting : Counting
+
+abbrev pub fresh_dial : ℕ → Dial
+fresh_dial rate = record { rate = rate; counting = fresh }
+
+-- a turn changes nothing about its rate
+abbrev pub turned : Turn → Dial → Dial
+turned t d = record { rate = d.rate; counting = turn t d.counting }
+
 -- what it shows: whole microseconds
 abbrev pub shown : Counting → ℕ
 shown k = k.counted / million

@@ -1,4 +1,4 @@
 -- What the contracts of this crate cite.
 pub mod Time
 pub mod Counting
-pub mod Seen
+pub mod Dials

@@ -1,19 +1,57 @@
 //! A clock that counts at a given pace, for rehearsals: what it shows is off by at most its rate, over changes of its pace too.
-ghost use Rattle.std.specs.Prelude.{◌≡◌, ◌+◌, ◌-◌, ◌*◌, ◌/◌, ◌^◌, ◌<◌, MatchOption};
-ghost use Rattle.clocks.specs.Counting.{pass, change, turn, shown, fresh, CountingRuns};
-ghost use Rattle.clocks.specs.Seen.{view};
-ghost use Rattle.clocks.specs.Time.{highest, million};
+ghost use Rattle.std.specs.Prelude.{◌≡◌, ◌+◌, ◌-◌, ◌*◌, ◌^◌, ◌<◌, ◌≤◌, MatchOption};
+ghost use Rattle.clocks.specs.Counting.{Dial, pass, change, turn, turned, fresh_dial, shown, CountingRuns};
+ghost use Rattle.clocks.specs.Dials.{parts_of, pace_of};
+ghost use Rattle.clocks.specs.Time.{highest};
 
+use crate::growth::HIGHEST;
 use crate::rates::{MILLION, Rate};
-use crate::types::Clock;
+use std::marker::Model;
 
 // How many millionths a clock can count before it would show more than the highest number.
-const LIMIT: u128 = 18_446_744_073_709_551_616_000_000;
+const LIMIT: u128 = (HIGHEST as u128 + 1) * MILLION as u128;
+
+/// How a clock runs from a time on: so many parts in a million fast, or slow.
+#[derive(Clone, Copy, PartialEq, Eq, Debug)]
+pub enum Drift {
+    Fast(u64),
+    Slow(u64),
+}
+
+impl Drift {
+    /// How many parts in a million the clock is then off.
+    pub fn parts(self) -> u64
+        ensures { result ≡ parts_of self }
+    {
+        match self {
+            Drift::Fast(parts) | Drift::Slow(parts) => parts,
+        }
+    }
+}
+
+/// A clock that counts millionths of a microsecond, so many for each microsecond of true time, and shows whole microseconds, at
+/// most the highest number. Its pace stays within its rate.
+#[derive(Clone, Copy)]
+pub struct Clock {
+    rate: Rate,
+    pace: u64,
+    counted: u128,
+}
+
+impl Model for Clock {
+    ghost Value = { Dial };
+
+    ghost view = { λ c. record { rate = c.rate; counting = record { counted = c.counted; pace = c.pace } } };
+
+    ghost invariant = { λ c. (c.counted < 18446744073709551616000000) × (1000000 - c.rate ≤ c.pace) × (c.pace ≤ 1000000 + c.rate) × (c.rate ≤ 1000) };
+
+    ghost inverse = { λ d. record { rate = d.rate; pace = d.counting.pace; counted = d.counting.counted } };
+}
 
 impl Clock {
     /// A clock that shows 0 and counts exactly.
     pub fn new(rate: Rate) -> Clock
-        ensures { (view result ≡ fresh) × (result.rate.parts ≡ rate.parts) }
+        ensures { result ≡ fresh_dial rate }
     {
         Clock {
             rate,
@@ -23,14 +61,14 @@ impl Clock {
     }
 
     pub fn shows(self) -> u64
-        ensures { result ≡ shown (view self) }
+        ensures { result ≡ shown self.counting }
     {
         (self.counted / MILLION as u128) as u64
     }
 
     // What it counts in so much true time.
     fn gain(self, by: u64) -> u128
-        ensures value { result ≡ by * self.pace }
+        ensures value { result ≡ by * self.counting.pace }
         ensures bound { result < 2 ^ 100 }
     {
         by as u128 * self.pace as u128
@@ -38,51 +76,31 @@ impl Clock {
 
     /// The clock after so much true time, unless it would then show more than the highest number.
     pub fn passed(self, by: u64) -> Option<Clock>
-        ensures { MatchOption result (highest < shown (turn (pass by) (view self))) (λ x. (view x ≡ turn (pass by) (view self)) × (x.rate.parts ≡ self.rate.parts)) }
+        ensures { MatchOption result (highest < shown (turn (pass by) self.counting)) (λ x. x ≡ turned (pass by) self) }
     {
         let counted = self.counted + self.gain(by);
         if counted >= LIMIT {
             return None;
         }
-        Some(Clock {
-            rate: self.rate,
-            pace: self.pace,
-            counted,
-        })
+        Some(Clock { counted, ..self })
     }
 
-    /// The clock that runs so many parts in a million fast from now on, unless that is above its rate.
-    pub fn fast(self, parts: u64) -> Option<Clock>
-        ensures { MatchOption result (self.rate.parts < parts) (λ x. (view x ≡ turn (change (million + parts)) (view self)) × (x.rate.parts ≡ self.rate.parts)) }
+    /// The clock that runs so from now on, unless that is above its rate.
+    pub fn drifting(self, drift: Drift) -> Option<Clock>
+        ensures { MatchOption result (self.rate < parts_of drift) (λ x. x ≡ turned (change (pace_of drift)) self) }
     {
-        if parts > self.rate.parts() {
+        if drift.parts() > self.rate.parts() {
             return None;
         }
-        Some(Clock {
-            rate: self.rate,
-            pace: MILLION + parts,
-            counted: self.counted,
-        })
-    }
-
-    /// The clock that runs so many parts in a million slow from now on, unless that is above its rate.
-    pub fn slow(self, parts: u64) -> Option<Clock>
-        ensures { MatchOption result (self.rate.parts < parts) (λ x. (view x ≡ turn (change (million - parts)) (view self)) × (x.rate.parts ≡ self.rate.parts)) }
-    {
-        if parts > self.rate.parts() {
-            return None;
-        }
-        Some(Clock {
-            rate: self.rate,
-            pace: MILLION - parts,
-            counted: self.counted,
-        })
+        let pace = match drift {
+            Drift::Fast(parts) => MILLION + parts,
+            Drift::Slow(parts) => MILLION - parts,
+        };
+        Some(Clock { pace, ..self })
     }
 }
 
 /// The theorem on clocks that count.
-pub fn counting_runs() -> u8
+pub fn counting_runs()
     ensures { CountingRuns }
-{
-    0
-}
+{}

@@ -12,4 +12,3 @@
 pub mod counting;
 pub mod growth;
 pub mod rates;
-pub mod types;

@@ -1,3 +1,2 @@
-mod Dials
 mod Opens
 mod Plays

@@ -4,33 +4,37 @@ use lib.ListN.{length-replicate, get_or-replicate}
 use Rattle.std.proofs.lemmas.List.{length-map, get_or-map}
 use Rattle.std.proofs.lemmas.Bool.{cases_Bool, cases_eq, cond_both, cond-true, cond-false, and_parts, and_from, and_left, and_right, leb-true, eqb-true, eq-eqb, ne_eqb, lt-ltb}
 use Rattle.clocks.specs.Time.{million, highest, RunsFrom}
-use Rattle.clocks.specs.Counting.{Counting, Turn, pass, change, turn, turns, fresh, shown, elapsed, Within}
+use Rattle.clocks.specs.declared.counting.Drift.{Drift}
+use Rattle.clocks.specs.declared.counting.Drift.TheVariants as drift
+use Rattle.clocks.specs.Counting.{Counting, Dial, Turn, pass, change, turn, turned, turns, fresh, fresh_dial, shown, elapsed, Within}
+use Rattle.clocks.specs.Dials.{parts_of, pace_of}
 use Rattle.clocks.proofs.Counts.{counting_runs_lem}
-use Rattle.world.specs.declared.actions.Setup.{Setup}
+use Rattle.votes.specs.declared.types.Setup.{Setup}
+use Rattle.votes.specs.declared.types.Refusal.{Refusal}
+use Rattle.votes.specs.declared.types.Refusal.TheVariants.{Invalid}
 use Rattle.world.specs.declared.actions.Input.TheVariants as input
 use Rattle.world.specs.declared.actions.Action.{Action}
 use Rattle.world.specs.declared.actions.Action.TheVariants as action
 use Rattle.world.specs.declared.actions.Reply.{Reply}
 use Rattle.world.specs.declared.actions.Reply.TheVariants as reply
-use Rattle.world.specs.declared.actions.Refusal.{Refusal}
-use Rattle.world.specs.declared.actions.Refusal.TheVariants.{Invalid}
-use Rattle.world.specs.Step.{WorldView, MachineView, nobody, machine_of, made, valid, start, reply_of, step, run}
+use Rattle.world.specs.declared.machine.Machine.{Machine}
+use Rattle.world.specs.Step.{WorldView, nobody, machine_of, made, valid, start, reply_of, step, run}
 use Rattle.world.specs.Promise.{FewFaulty, Given, Reads}
 use Rattle.world.proofs.Worlds.{spans_hold_lem}
-use Rattle.rehearse.specs.Rehearsals.{RehearsalView, Dial, no_dial, dial_at, there, fresh_dial, opening, input_reply, input_after, pace_of, can_pace, pace_after, passed, all_go_on, pass_reply}
+use Rattle.rehearse.specs.Rehearsals.{RehearsalView, no_dial, dial_at, there, opening, input_reply, input_after, can_pace, pace_after, all_go_on, pass_reply}
 use Rattle.rehearse.proofs.Opens.{valid_rate}
 use Rattle.rehearse.specs.Promise.{Move, passes, paces, inputs, play, plays, RehearsalsHold}
 
 -- the actions of a move, none or one
 move_actions : RehearsalView → Move → List Action
 move_actions v (passes by) = cond (is_ok (pass_reply v by)) (action.Pass by ∷ []) []
-move_actions v (paces j parts fast) = []
+move_actions v (paces j d) = []
 move_actions v (inputs j i) = cond (there v j) (action.Input j (shown (dial_at v j).counting) i ∷ []) []
 
 -- the turns of a machine's clock in a move, none or one
 move_turns : ℕ → RehearsalView → Move → List Turn
 move_turns k v (passes by) = cond (is_ok (pass_reply v by)) (pass by ∷ []) []
-move_turns k v (paces j parts fast) = cond (eqb k j && can_pace v j parts) (change (pace_of fast parts) ∷ []) []
+move_turns k v (paces j d) = cond (eqb k j && can_pace v j d) (change (pace_of d) ∷ []) []
 move_turns k v (inputs j i) = []
 
 actions_of : RehearsalView → List Move → List Action
@@ -82,8 +86,8 @@ one_or_none false w a x y p q = sym q
 move_runs : (v : RehearsalView) (m : Move) → run v.world (move_actions v m) ≡ (play v m).world
 unfolding run move_actions
 move_runs v (passes by) =
-    one_or_none (is_ok (pass_reply v by)) v.world (action.Pass by) (record { world = step v.world (action.Pass by); dials = map (passed by) v.dials }) v refl refl
-move_runs v (paces j parts fast) = cond_both (can_pace v j parts) _ v (λ x. v.world ≡ x.world) (λ e. refl) (λ e. refl)
+    one_or_none (is_ok (pass_reply v by)) v.world (action.Pass by) (record { world = step v.world (action.Pass by); dials = map (turned (pass by)) v.dials }) v refl refl
+move_runs v (paces j d) = cond_both (can_pace v j d) _ v (λ x. v.world ≡ x.world) (λ e. refl) (λ e. refl)
 move_runs v (inputs j i) =
     one_or_none (there v j) v.world (action.Input j (shown (dial_at v j).counting) i) (record { world = step v.world (action.Input j (shown (dial_at v j).counting) i); dials = v.dials }) v refl refl
 
@@ -107,12 +111,12 @@ module _ (k rate : ℕ) where
   ok_time false false r e = e
 
   at_pass : (v : RehearsalView) (ts : List Turn) (by : ℕ) → At v ts → is_ok (pass_reply v by) ≡ true →
-      At (record { world = step v.world (action.Pass by); dials = map (passed by) v.dials }) (ts ++ (pass by ∷ []))
+      At (record { world = step v.world (action.Pass by); dials = map (turned (pass by)) v.dials }) (ts ++ (pass by ∷ []))
   at_pass v ts by a e =
-      let d = get_or-map (passed by) v.dials k no_dial no_dial a.here in
+      let d = get_or-map (turned (pass by)) v.dials k no_dial no_dial a.here in
       let l = ok_time (all_go_on by v.dials) (leb (v.world.now + by) highest) reply.Passed e in
       record {
-        here = (let n = length-map v.dials (passed by) in let h = a.here in omega arith);
+        here = (let n = length-map v.dials (turned (pass by)) in let h = a.here in omega arith);
         rates = ap (λ (x : Dial). x.rate) d ∙ a.rates;
         counts = ap (λ (x : Dial). x.counting) d ∙ (ap (λ (x : Counting). turn (pass by) x) a.counts ∙ sym (turns_both ts (pass by ∷ []) fresh));
         time =
@@ -121,9 +125,9 @@ module _ (k rate : ℕ) where
       }
 
   at_pace : (v : RehearsalView) (ts : List Turn) (p : ℕ) → At v ts →
-      At (record { world = v.world; dials = set v.dials k (record { rate = (dial_at v k).rate; counting = turn (change p) (dial_at v k).counting }) }) (ts ++ (change p ∷ []))
+      At (record { world = v.world; dials = set v.dials k (turned (change p) (dial_at v k)) }) (ts ++ (change p ∷ []))
   at_pace v ts p a =
-      let d = get_or-set_same v.dials k (record { rate = (dial_at v k).rate; counting = turn (change p) (dial_at v k).counting }) no_dial a.here in
+      let d = get_or-set_same v.dials k (turned (change p) (dial_at v k)) no_dial a.here in
       record {
         here = simp length-set a.here;
         rates = ap (λ (x : Dial). x.rate) d ∙ a.rates;
@@ -144,23 +148,23 @@ module _ (k rate : ℕ) where
   at_input : (v : RehearsalView) (ts : List Turn) (w : WorldView) → At v ts → w.now ≡ v.world.now → At (record { world = w; dials = v.dials }) ts
   at_input v ts w a e = record { here = a.here; rates = a.rates; counts = a.counts; time = a.time ∙ sym e }
 
-  pace_moved : (v : RehearsalView) (ts : List Turn) (j parts : ℕ) (fast : Bool) → At v ts →
-      At (pace_after v j parts fast) (ts ++ cond (eqb k j && can_pace v j parts) (change (pace_of fast parts) ∷ []) [])
-  pace_moved v ts j parts fast a =
-      cond_both (can_pace v j parts) (record { world = v.world; dials = set v.dials j (record { rate = (dial_at v j).rate; counting = turn (change (pace_of fast parts)) (dial_at v j).counting }) }) v
-      (λ x. At x (ts ++ cond (eqb k j && can_pace v j parts) (change (pace_of fast parts) ∷ []) []))
+  pace_moved : (v : RehearsalView) (ts : List Turn) (j : ℕ) (d : Drift) → At v ts →
+      At (pace_after v j d) (ts ++ cond (eqb k j && can_pace v j d) (change (pace_of d) ∷ []) [])
+  pace_moved v ts j d a =
+      cond_both (can_pace v j d) (record { world = v.world; dials = set v.dials j (turned (change (pace_of d)) (dial_at v j)) }) v
+      (λ x. At x (ts ++ cond (eqb k j && can_pace v j d) (change (pace_of d) ∷ []) []))
       (λ e. elim (cases_eq k j) [
         | inl q ↦
-            subst (λ l. At (record { world = v.world; dials = set v.dials j (record { rate = (dial_at v j).rate; counting = turn (change (pace_of fast parts)) (dial_at v j).counting }) }) (ts ++ l))
-            (sym (cond-true (eqb k j && can_pace v j parts) (change (pace_of fast parts) ∷ []) [] (and_from (eqb k j) (can_pace v j parts) (eq-eqb k j q) e)))
-            (subst (λ n. At (record { world = v.world; dials = set v.dials n (record { rate = (dial_at v n).rate; counting = turn (change (pace_of fast parts)) (dial_at v n).counting }) }) (ts ++ (change (pace_of fast parts) ∷ []))) q (at_pace v ts (pace_of fast parts) a))
+            subst (λ l. At (record { world = v.world; dials = set v.dials j (turned (change (pace_of d)) (dial_at v j)) }) (ts ++ l))
+            (sym (cond-true (eqb k j && can_pace v j d) (change (pace_of d) ∷ []) [] (and_from (eqb k j) (can_pace v j d) (eq-eqb k j q) e)))
+            (subst (λ n. At (record { world = v.world; dials = set v.dials n (turned (change (pace_of d)) (dial_at v n)) }) (ts ++ (change (pace_of d) ∷ []))) q (at_pace v ts (pace_of d) a))
         | inr n ↦
-            at_same (record { world = v.world; dials = set v.dials j (record { rate = (dial_at v j).rate; counting = turn (change (pace_of fast parts)) (dial_at v j).counting }) }) ts (cond (eqb k j && can_pace v j parts) (change (pace_of fast parts) ∷ []) [])
-            (cond-false (eqb k j && can_pace v j parts) (change (pace_of fast parts) ∷ []) [] (and_left (eqb k j) (can_pace v j parts) (ne_eqb k j n)))
-            (at_other v ts j (record { rate = (dial_at v j).rate; counting = turn (change (pace_of fast parts)) (dial_at v j).counting }) a n)
+            at_same (record { world = v.world; dials = set v.dials j (turned (change (pace_of d)) (dial_at v j)) }) ts (cond (eqb k j && can_pace v j d) (change (pace_of d) ∷ []) [])
+            (cond-false (eqb k j && can_pace v j d) (change (pace_of d) ∷ []) [] (and_left (eqb k j) (can_pace v j d) (ne_eqb k j n)))
+            (at_other v ts j (turned (change (pace_of d)) (dial_at v j)) a n)
       ])
-      (λ e. at_same v ts (cond (eqb k j && can_pace v j parts) (change (pace_of fast parts) ∷ []) [])
-      (cond-false (eqb k j && can_pace v j parts) (change (pace_of fast parts) ∷ []) [] (and_right (eqb k j) (can_pace v j parts) e)) a)
+      (λ e. at_same v ts (cond (eqb k j && can_pace v j d) (change (pace_of d) ∷ []) [])
+      (cond-false (eqb k j && can_pace v j d) (change (pace_of d) ∷ []) [] (and_right (eqb k j) (can_pace v j d) e)) a)
 
   moved : (v : RehearsalView) (ts : List Turn) (m : Move) → At v ts → At (play v m) (ts ++ move_turns k v m)
   unfolding move_turns
@@ -168,12 +172,12 @@ module _ (k rate : ℕ) where
       elim (cases_Bool (is_ok (pass_reply v by))) [
         | inl e ↦
             subst (λ x. At x (ts ++ cond (is_ok (pass_reply v by)) (pass by ∷ []) [])) (sym (cond-true (is_ok (pass_reply v by)) _ v e))
-            (subst (λ l. At (record { world = step v.world (action.Pass by); dials = map (passed by) v.dials }) (ts ++ l)) (sym (cond-true (is_ok (pass_reply v by)) (pass by ∷ []) [] e)) (at_pass v ts by a e))
+            (subst (λ l. At (record { world = step v.world (action.Pass by); dials = map (turned (pass by)) v.dials }) (ts ++ l)) (sym (cond-true (is_ok (pass_reply v by)) (pass by ∷ []) [] e)) (at_pass v ts by a e))
         | inr e ↦
             subst (λ x. At x (ts ++ cond (is_ok (pass_reply v by)) (pass by ∷ []) [])) (sym (cond-false (is_ok (pass_reply v by)) _ v e))
             (at_same v ts (cond (is_ok (pass_reply v by)) (pass by ∷ []) []) (cond-false (is_ok (pass_reply v by)) (pass by ∷ []) [] e) a)
       ]
-  moved v ts (paces j parts fast) a = pace_moved v ts j parts fast a
+  moved v ts (paces j d) a = pace_moved v ts j d a
   moved v ts (inputs j i) a =
       at_same (input_after v j i) ts [] refl
       (cond_both (there v j) (record { world = step v.world (action.Input j (shown (dial_at v j).counting) i); dials = v.dials }) v (λ x. At x ts)
@@ -182,22 +186,22 @@ module _ (k rate : ℕ) where
       (λ e. a))
 
   -- a pace that is taken is within the rate
-  pace_within : (fast : Bool) (parts : ℕ) → rate ≤ 1000 → parts ≤ rate → (million - rate ≤ pace_of fast parts) × (pace_of fast parts ≤ million + rate)
-  pace_within true parts r h = (omega arith, omega arith)
-  pace_within false parts r h = (omega arith, omega arith)
+  pace_within : (d : Drift) → rate ≤ 1000 → parts_of d ≤ rate → (million - rate ≤ pace_of d) × (pace_of d ≤ million + rate)
+  pace_within (drift.Fast parts) r h = (omega arith, omega arith)
+  pace_within (drift.Slow parts) r h = (omega arith, omega arith)
 
   move_within : (v : RehearsalView) (ts : List Turn) (m : Move) → rate ≤ 1000 → At v ts → Within rate (move_turns k v m)
   unfolding move_turns
   move_within v ts (passes by) r a = cond_both (is_ok (pass_reply v by)) (pass by ∷ []) [] (Within rate) (λ e. tt) (λ e. tt)
-  move_within v ts (paces j parts fast) r a =
-      cond_both (eqb k j && can_pace v j parts) (change (pace_of fast parts) ∷ []) [] (Within rate)
+  move_within v ts (paces j d) r a =
+      cond_both (eqb k j && can_pace v j d) (change (pace_of d) ∷ []) [] (Within rate)
       (λ e.
-      let p = and_parts (eqb k j) (can_pace v j parts) e in
-      let q = and_parts (there v j) (leb parts (dial_at v j).rate) p.1 in
+      let p = and_parts (eqb k j) (can_pace v j d) e in
+      let q = and_parts (there v j) (leb (parts_of d) (dial_at v j).rate) p.1 in
       let j_is_k = eqb-true k j p.0 in
-      let l : parts ≤ (dial_at v j).rate = leb-true parts (dial_at v j).rate q.1 in
+      let l : parts_of d ≤ (dial_at v j).rate = leb-true (parts_of d) (dial_at v j).rate q.1 in
       let s : (dial_at v j).rate ≡ rate = ap (λ n. (dial_at v n).rate) (sym j_is_k) ∙ a.rates in
-      let b = pace_within fast parts r (omega arith) in (b.0, b.1, tt))
+      let b = pace_within d r (omega arith) in (b.0, b.1, tt))
       (λ e. tt)
   move_within v ts (inputs j i) r a = tt
 
@@ -212,7 +216,7 @@ module _ (k rate : ℕ) where
     move_reads : (v : RehearsalView) (ts rest : List Turn) (m : Move) → all ≡ ts ++ rest → At v ts → Reads k c v.world (move_actions v m)
     unfolding move_actions
     move_reads v ts rest (passes by) e a = cond_both (is_ok (pass_reply v by)) (action.Pass by ∷ []) [] (Reads k c v.world) (λ p. tt) (λ p. tt)
-    move_reads v ts rest (paces j parts fast) e a = tt
+    move_reads v ts rest (paces j d) e a = tt
     move_reads v ts rest (inputs j i) e a =
         cond_both (there v j) (action.Input j (shown (dial_at v j).counting) i ∷ []) [] (Reads k c v.world)
         (λ p. ((λ q. ap (λ n. shown (dial_at v n).counting) q ∙ (ap shown a.counts ∙ (sym (shows ts rest e) ∙ ap c a.time))), tt)) (λ p. tt)
@@ -251,7 +255,7 @@ module _ (machines : ℕ) (s : Setup) (four : machines ≤ 4) (k : ℕ) (h : k <
 
   start_rate : (machine_of (start (take machines (replicate 4 s))) k).votes.rate ≡ s.rate
   start_rate =
-      ap (λ (m : MachineView). m.votes.rate) (get_or-map made (take machines (replicate 4 s)) k s nobody setup_there)
+      ap (λ (m : Machine). m.votes.rate) (get_or-map made (take machines (replicate 4 s)) k s nobody setup_there)
       ∙ ap (λ (x : Setup). x.rate) (ap (λ l. get_or l k s) setups_are ∙ get_or-replicate machines k s s h)
 
   at_start : At k s.rate (opening machines s) []

@@ -1,6 +1,7 @@
 -- What is promised of every rehearsal.
-use Rattle.std.specs.Prelude.{◌≡◌, ℕ, ◌<◌, Bool, true, List, [], ◌∷◌}
-use Rattle.world.specs.declared.actions.Setup.{Setup}
+use Rattle.std.specs.Prelude.{◌≡◌, ℕ, ◌<◌, true, List, [], ◌∷◌}
+use Rattle.clocks.specs.declared.counting.Drift.{Drift}
+use Rattle.votes.specs.declared.types.Setup.{Setup}
 use Rattle.world.specs.declared.actions.Input.{Input}
 use Rattle.world.specs.declared.actions.Input.TheVariants as input
 use Rattle.world.specs.Step.{machine_of}
@@ -10,12 +11,12 @@ use Rattle.rehearse.specs.Rehearsals.{RehearsalView, can_open, opening, input_re
 -- what a script can do to a rehearsal: time passes, a clock's pace changes, or any input comes to a machine
 pub data Move : Type 0 where
   passes : ℕ → Move
-  paces : (machine parts : ℕ) → Bool → Move
+  paces : ℕ → Drift → Move
   inputs : ℕ → Input → Move
 
 abbrev pub play : RehearsalView → Move → RehearsalView
 play v (passes by) = pass_after v by
-play v (paces machine parts fast) = pace_after v machine parts fast
+play v (paces machine drift) = pace_after v machine drift
 play v (inputs machine i) = input_after v machine i
 
 unfoldable pub plays : RehearsalView → List Move → RehearsalView

@@ -1,36 +1,26 @@
 -- A world with a clock for each of its machines, and what each request does to it.
-use Rattle.std.specs.Prelude.{◌≡◌, ℕ, ◌+◌, ◌-◌, min, Bool, true, false, cond, ◌&&◌, List, [], ◌∷◌, map, length, take, replicate, is_ok, Ok, Err, vec_items, Result, nat_le, nat_lt, slice_index_or, slice_set}
+use Rattle.std.specs.Prelude.{◌≡◌, ℕ, ◌+◌, ◌-◌, min, Bool, true, false, cond, ◌&&◌, List, map, length, take, replicate, is_ok, Ok, Err, Result, nat_le, nat_lt, slice_index_or, slice_set}
 use Rattle.std.specs.Option.{unwrap_or}
-use Rattle.clocks.specs.declared.types.Clock.{Clock}
+use Rattle.std.specs.List.{list_all}
+use Rattle.clocks.specs.declared.counting.Drift.{Drift}
 use Rattle.clocks.specs.declared.growth.Span.{Span}
-use Rattle.clocks.specs.Time.{million, highest}
-use Rattle.clocks.specs.Counting.{Counting, pass, change, turn, fresh, shown}
-use Rattle.clocks.specs.Seen.{view}
-use Rattle.world.specs.declared.actions.Setup.{Setup}
+use Rattle.clocks.specs.Time.{highest}
+use Rattle.clocks.specs.Counting.{Dial, pass, change, turn, turned, fresh, fresh_dial, shown}
+use Rattle.clocks.specs.Dials.{parts_of, pace_of}
+use Rattle.votes.specs.declared.types.Setup.{Setup}
+use Rattle.votes.specs.declared.types.Refusal.{Refusal}
+use Rattle.votes.specs.declared.types.Refusal.TheVariants.{Invalid}
 use Rattle.world.specs.declared.actions.Input.{Input}
 use Rattle.world.specs.declared.actions.Input.TheVariants as input
 use Rattle.world.specs.declared.actions.Action.TheVariants as action
 use Rattle.world.specs.declared.actions.Reply.{Reply}
-use Rattle.world.specs.declared.actions.Refusal.{Refusal}
-use Rattle.world.specs.declared.actions.Refusal.TheVariants.{Invalid, WrongNumber, NoSpan, Memory}
+use Rattle.world.specs.declared.actions.NotMade.{NotMade}
+use Rattle.world.specs.declared.actions.NotMade.TheVariants as not_made
 use Rattle.world.specs.Step.{WorldView, valid, start, last_ask, reply_of, step}
-use Rattle.world.specs.Staged.{view as world_view}
-use Rattle.rehearse.specs.declared.rehearsal.Rehearsal.{Rehearsal}
-
--- a machine's clock: how far it may be off, and how far it has counted
-pub record Dial : Type 0 where
-  pub rate : ℕ
-  pub counting : Counting
 
 pub record RehearsalView : Type 0 where
   pub world : WorldView
   pub dials : List Dial
-
-abbrev pub dial_of : Clock → Dial
-dial_of c = record { rate = c.rate.parts; counting = view c }
-
-abbrev pub seen : Rehearsal → RehearsalView
-seen r = record { world = world_view r.world.stage; dials = map dial_of (vec_items r.clocks) }
 
 abbrev pub no_dial : Dial
 no_dial = record { rate = 0; counting = fresh }
@@ -42,9 +32,6 @@ abbrev pub there : RehearsalView → ℕ → Bool
 there v k = nat_lt k (length v.dials)
 
 -- A NEW REHEARSAL: so many of four machines, all alike, whose clocks show 0 and run exactly
-abbrev pub fresh_dial : ℕ → Dial
-fresh_dial rate = record { rate = rate; counting = fresh }
-
 abbrev pub can_open : ℕ → Setup → Bool
 can_open machines s = nat_le machines 4 && valid (take machines (replicate 4 s))
 
@@ -52,11 +39,9 @@ abbrev pub opening : ℕ → Setup → RehearsalView
 opening machines s = record { world = start (take machines (replicate 4 s)); dials = replicate machines (fresh_dial s.rate) }
 
 -- why there is none: a number out of range, or else want of memory
-abbrev pub NotOpened : ℕ → Setup → Refusal → Type 0
-NotOpened machines s Invalid = can_open machines s ≡ false
-NotOpened machines s WrongNumber = ⊥
-NotOpened machines s NoSpan = ⊥
-NotOpened machines s Memory = can_open machines s ≡ true
+abbrev pub NotOpened : ℕ → Setup → NotMade → Type 0
+NotOpened machines s not_made.Invalid = can_open machines s ≡ false
+NotOpened machines s not_made.Memory = can_open machines s ≡ true
 
 -- AN INPUT comes to a machine with what its clock shows
 abbrev pub input_reply : RehearsalView → ℕ → Input → Result Reply Refusal
@@ -75,35 +60,26 @@ abbrev pub around_now : RehearsalView → ℕ → ℕ → Span
 around_now v less more = record { low = v.world.now - less; high = min (v.world.now + more) highest }
 
 -- A CLOCK'S PACE changes, if it stays within its rate
-abbrev pub pace_of : Bool → ℕ → ℕ
-pace_of fast parts = cond fast (million + parts) (million - parts)
+abbrev pub can_pace : RehearsalView → ℕ → Drift → Bool
+can_pace v k drift = there v k && nat_le (parts_of drift) (dial_at v k).rate
 
-abbrev pub can_pace : RehearsalView → ℕ → ℕ → Bool
-can_pace v k parts = there v k && nat_le parts (dial_at v k).rate
+abbrev pub pace_reply : RehearsalView → ℕ → Drift → Result (Unit {0}) Refusal
+pace_reply v k drift = cond (can_pace v k drift) (Ok tt) (Err Invalid)
 
-abbrev pub pace_reply : RehearsalView → ℕ → ℕ → Result (Unit {0}) Refusal
-pace_reply v k parts = cond (can_pace v k parts) (Ok tt) (Err Invalid)
-
-abbrev pub pace_after : RehearsalView → ℕ → ℕ → Bool → RehearsalView
-pace_after v k parts fast =
-    cond (can_pace v k parts)
-    (record { world = v.world; dials = slice_set v.dials k (record { rate = (dial_at v k).rate; counting = turn (change (pace_of fast parts)) (dial_at v k).counting }) })
-    v
+abbrev pub pace_after : RehearsalView → ℕ → Drift → RehearsalView
+pace_after v k drift =
+    cond (can_pace v k drift) (record { world = v.world; dials = slice_set v.dials k (turned (change (pace_of drift)) (dial_at v k)) }) v
 
 -- TIME PASSES for the world and for all clocks, if none of them would show more than the highest number
 abbrev pub goes_on : ℕ → Dial → Bool
 goes_on by d = nat_le (shown (turn (pass by) d.counting)) highest
 
-unfoldable pub all_go_on : ℕ → List Dial → Bool
-all_go_on by [] = true
-all_go_on by (d ∷ ds) = goes_on by d && all_go_on by ds
-
-abbrev pub passed : ℕ → Dial → Dial
-passed by d = record { rate = d.rate; counting = turn (pass by) d.counting }
+abbrev pub all_go_on : ℕ → List Dial → Bool
+all_go_on by ds = list_all (goes_on by) ds
 
 abbrev pub pass_reply : RehearsalView → ℕ → Result Reply Refusal
 pass_reply v by = cond (all_go_on by v.dials) (reply_of v.world (action.Pass by)) (Err Invalid)
 
 abbrev pub pass_after : RehearsalView → ℕ → RehearsalView
 pass_after v by =
-    cond (is_ok (pass_reply v by)) (record { world = step v.world (action.Pass by); dials = map (passed by) v.dials }) v
+    cond (is_ok (pass_reply v by)) (record { world = step v.world (action.Pass by); dials = map (turned (pass by)) v.dials }) v

@@ -1,6 +1,5 @@
 -- What is said to each request of a script, and what it leaves behind.
-use Rattle.std.specs.Prelude.{◌≡◌, ℕ, Bool, true, false, ◌⊎◌, Some, None, Ok, Err, Option, Result}
-use Rattle.std.specs.Option.{option_map}
+use Rattle.std.specs.Prelude.{◌≡◌, ℕ, true, ◌⊎◌, Some, None, Ok, Err, Option, Result}
 use Rattle.answers.specs.declared.Said.{Said}
 use Rattle.answers.specs.declared.Said.TheVariants as said
 use Rattle.answers.specs.declared.Reply.{Reply as Answer}
@@ -9,16 +8,19 @@ use Rattle.lines.specs.declared.Line.{Line}
 use Rattle.lines.specs.declared.Line.TheVariants as line
 use Rattle.lines.specs.declared.scripts.ScriptRequest.{ScriptRequest}
 use Rattle.lines.specs.declared.scripts.ScriptRequest.TheVariants as request
-use Rattle.world.specs.declared.actions.Setup.{Setup}
+use Rattle.clocks.specs.declared.counting.Drift.{Drift}
+use Rattle.clocks.specs.declared.counting.Drift.TheVariants as drift
+use Rattle.votes.specs.declared.types.Setup.{Setup}
+use Rattle.votes.specs.declared.types.Refusal.{Refusal}
+use Rattle.votes.specs.declared.types.Refusal.TheVariants.{Invalid}
+use Rattle.votes.specs.Exchanges.{number_of}
 use Rattle.world.specs.declared.actions.Input.{Input}
 use Rattle.world.specs.declared.actions.Input.TheVariants as input
 use Rattle.world.specs.declared.actions.Reply.{Reply}
 use Rattle.world.specs.declared.actions.Reply.TheVariants as reply
-use Rattle.world.specs.declared.actions.Refusal.{Refusal}
-use Rattle.world.specs.declared.actions.Refusal.TheVariants.{Invalid}
-use Rattle.world.specs.Step.{number_of}
-use Rattle.rehearse.specs.declared.rehearsal.Rehearsal.{Rehearsal}
-use Rattle.rehearse.specs.Rehearsals.{RehearsalView, input_reply, input_after, answer_input, around_now, pace_reply, pace_after, pass_reply, pass_after, can_open, opening, NotOpened, seen}
+use Rattle.world.specs.declared.actions.NotMade.{NotMade}
+use Rattle.world.specs.Step.{number_of as not_made_number}
+use Rattle.rehearse.specs.Rehearsals.{RehearsalView, input_reply, input_after, answer_input, around_now, pace_reply, pace_after, pass_reply, pass_after, can_open, opening, NotOpened}
 
 abbrev pub refused_as : Refusal → Said
 refused_as e = said.Number (number_of e)
@@ -48,9 +50,8 @@ abbrev pub OnInput : RehearsalView → ℕ → Input → RehearsalView → Answe
 OnInput v machine i exit r = (exit ≡ input_after v machine i) × (r ≡ machine_says exit.world.now machine (input_reply v machine i))
 
 -- a change of a machine's pace
-abbrev pub OnPace : RehearsalView → ℕ → ℕ → Bool → RehearsalView → Answer → Type 0
-OnPace v machine parts fast exit r =
-    (exit ≡ pace_after v machine parts fast) × (r ≡ machine_says exit.world.now machine (pace_done (pace_reply v machine parts)))
+abbrev pub OnPace : RehearsalView → ℕ → Drift → RehearsalView → Answer → Type 0
+OnPace v machine d exit r = (exit ≡ pace_after v machine d) × (r ≡ machine_says exit.world.now machine (pace_done (pace_reply v machine d)))
 
 -- time that passes
 abbrev pub OnPass : RehearsalView → ℕ → RehearsalView → Answer → Type 0
@@ -64,8 +65,8 @@ Answered P (Some a) = P a
 abbrev pub Responds : RehearsalView → ScriptRequest → RehearsalView → Option Answer → Type 0
 Responds v (request.World machines servers faulty rate) exit r = (exit ≡ v) × (r ≡ None)
 Responds v (request.Pass by) exit r = Answered (OnPass v by exit) r
-Responds v (request.Fast machine parts) exit r = Answered (OnPace v machine parts true exit) r
-Responds v (request.Slow machine parts) exit r = Answered (OnPace v machine parts false exit) r
+Responds v (request.Fast machine parts) exit r = Answered (OnPace v machine (drift.Fast parts) exit) r
+Responds v (request.Slow machine parts) exit r = Answered (OnPace v machine (drift.Slow parts) exit) r
 Responds v (request.Ask machine server) exit r = Answered (OnInput v machine (input.Ask server) exit) r
 Responds v (request.Answer machine server low high) exit r =
     Answered (OnInput v machine (answer_input v machine server (record { low = low; high = high })) exit) r
@@ -74,9 +75,6 @@ Responds v (request.Honest machine server less more) exit r =
 Responds v (request.Span machine) exit r = Answered (OnInput v machine input.Span exit) r
 
 -- A SCRIPT: nothing before its first world
-abbrev pub script_view : Option Rehearsal → Option RehearsalView
-script_view o = option_map seen o
-
 abbrev pub time_of : Option RehearsalView → ℕ
 time_of None = 0
 time_of (Some v) = v.world.now
@@ -88,7 +86,7 @@ setup_of servers faulty rate = record { servers = servers; faulty = faulty; rate
 abbrev pub Begins : Option RehearsalView → ℕ → Setup → Option RehearsalView → Answer → Type 0
 Begins v machines s exit r =
     ((can_open machines s ≡ true) × (exit ≡ Some (opening machines s)) × (r ≡ answer.World 0 said.Ok))
-    ⊎ ((e : Refusal) × NotOpened machines s e × (exit ≡ v) × (r ≡ answer.World (time_of v) (refused_as e)))
+    ⊎ ((e : NotMade) × NotOpened machines s e × (exit ≡ v) × (r ≡ answer.World (time_of v) (said.Number (not_made_number e))))
 
 -- what is said where nothing is done
 abbrev pub not_taken : Option RehearsalView → Answer

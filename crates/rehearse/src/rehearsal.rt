@@ -1,14 +1,16 @@
 //! A world with a clock for each of its machines.
-ghost use Rattle.std.specs.Prelude.{◌≡◌, ◌<◌, ◌≤◌, true, false, map, replicate, is_ok, IfOk, MatchOption, MatchResult};
-ghost use Rattle.clocks.specs.Counting.{change, turn};
+ghost use Rattle.std.specs.Prelude.{◌≡◌, true, map, replicate, vec_items, IfOk, OnErr, MatchResult};
+ghost use Rattle.clocks.specs.Counting.{pass, turned, fresh_dial};
 ghost use Rattle.rehearse.specs.Promise.{RehearsalsHold};
-ghost use Rattle.rehearse.specs.Rehearsals.{NotOpened, all_go_on, answer_input, around_now, can_open, dial_of, fresh_dial, input_after, input_reply, opening, pace_after, pace_of, pace_reply, pass_after, pass_reply, passed, seen};
+ghost use Rattle.rehearse.specs.Rehearsals.{NotOpened, RehearsalView, all_go_on, answer_input, around_now, can_open, input_after, input_reply, opening, pace_after, pace_reply, pass_after, pass_reply};
 
+use clocks::counting::{Clock, Drift};
 use clocks::growth::Span;
 use clocks::rates::Rate;
-use clocks::types::Clock;
 use std::alloc::{AllocError, Global};
-use world::actions::{Action, Input, Refusal, Reply, Setup};
+use std::marker::Model;
+use votes::types::{Refusal, Setup};
+use world::actions::{Action, Input, NotMade, Reply};
 use world::types::World;
 
 // The most machines that a rehearsal has.
@@ -16,82 +18,70 @@ const MACHINES: usize = 4;
 
 // Can all clocks go on by so much, and show no more than the highest number?
 fn all_go_on(clocks: &[Clock], by: u64) -> bool
-    ensures { result ≡ all_go_on by (map dial_of clocks.now) }
+    ensures { result ≡ all_go_on by clocks.now }
 {
-    for clock in clocks {
-        let Some(_) = clock.passed(by) else {
-            return false;
-        };
-    }
-    true
+    clocks.iter().all(|clock| clock.passed(by).is_some())
 }
 
 // All clocks, which can, go on by so much.
-fn pass_each(clocks: &mut Vec<Clock>, by: u64)
-    requires { all_go_on by (map dial_of clocks.old.items) ≡ true }
-    ensures { map dial_of clocks.new.items ≡ map (passed by) (map dial_of clocks.old.items) }
+fn pass_each(clocks: &mut [Clock], by: u64)
+    requires { all_go_on by clocks.old ≡ true }
+    ensures { clocks.new ≡ map (turned (pass by)) clocks.old }
 {
-    for i in 0..clocks.len() {
-        let Some(on) = clocks[i].passed(by) else {
-            unreachable()
-        };
-        clocks[i] = on;
-    }
-}
-
-// A clock that runs fast, or slow, from now on, unless that is above its rate.
-fn paced(clock: Clock, parts: u64, fast: bool) -> Option<Clock>
-    ensures { MatchOption result ((dial_of clock).rate < parts) (λ x. (parts ≤ (dial_of clock).rate) × (dial_of x ≡ record { rate = (dial_of clock).rate; counting = turn (change (pace_of fast parts)) (dial_of clock).counting })) }
-{
-    if fast {
-        clock.fast(parts)
-    } else {
-        clock.slow(parts)
+    for clock in clocks {
+        *clock = clock.passed(by).unwrap();
     }
 }
 
 // So many clocks that show 0 and run exactly.
-fn fresh_clocks(heap: Global, rate: Rate, count: u64) -> Result<Vec<Clock>, AllocError>
-    ensures { IfOk result (λ v. map dial_of v.items ≡ replicate count (fresh_dial rate.parts)) }
+fn fresh_clocks(heap: Global, rate: Rate, count: usize) -> Result<Vec<Clock>, AllocError>
+    ensures { IfOk result (λ v. v.items ≡ replicate count (fresh_dial rate)) }
 {
-    let mut clocks = Vec::new(heap);
-    for _ in 0..count {
-        clocks.push(Clock::new(rate))?;
-    }
-    Ok(clocks)
+    Ok(vec![in heap; Clock::new(rate); count]?)
 }
 
 /// A world, and the clock of each of its machines.
 #[derive(Drop)]
 pub(crate) struct Rehearsal {
-    pub(crate) world: World,
-    pub(crate) clocks: Vec<Clock>,
+    world: World,
+    clocks: Vec<Clock>,
+}
+
+impl Model for Rehearsal {
+    ghost Value = { RehearsalView };
+
+    ghost view = { λ r. record { world = r.world; dials = vec_items r.clocks } };
 }
 
 impl Rehearsal {
     /// So many machines, all alike, whose clocks show 0 and run exactly.
-    pub(crate) fn new(heap: Global, machines: u64, setup: Setup) -> Result<Rehearsal, Refusal>
-        ensures { MatchResult result (λ x. (can_open machines setup ≡ true) × (seen x ≡ opening machines setup)) (λ e. NotOpened machines setup e) }
+    pub(crate) fn new(heap: Global, machines: u64, setup: Setup) -> Result<Rehearsal, NotMade>
+        ensures { MatchResult result (λ r. (can_open machines setup ≡ true) × (r ≡ opening machines setup)) (λ e. NotOpened machines setup e) }
     {
         if machines > MACHINES as u64 {
-            return Err(Refusal::Invalid);
+            return Err(NotMade::Invalid);
         }
         let setups = [setup; MACHINES];
-        let world = World::new(heap, &setups[0..machines as usize])?;
-        let Some(rate) = Rate::new(setup.rate) else {
-            unreachable()
-        };
-        let clocks = fresh_clocks(heap, rate, machines)?;
+        let world = World::new(heap, &setups[..machines as usize])?;
+        let rate = Rate::new(setup.rate).unwrap();
+        let clocks = fresh_clocks(heap, rate, machines as usize)?;
         Ok(Rehearsal { world, clocks })
+    }
+
+    /// The true time.
+    pub(crate) fn time(&self) -> u64
+        ensures { result ≡ self.now.world.now }
+    {
+        self.world.time()
     }
 
     /// The true time goes on, and all clocks with it.
     pub(crate) fn pass(&mut self, by: u64) -> Result<Reply, Refusal>
-        ensures reply { result ≡ pass_reply (seen self.old) by }
-        ensures after { seen self.new ≡ pass_after (seen self.old) by }
-        ensures refused { is_ok result ≡ false → seen self.new ≡ seen self.old }
+        ensures reply { result ≡ pass_reply self.old by }
+        ensures after { self.new ≡ pass_after self.old by }
+        ensures refused { OnErr result (self.new ≡ self.old) }
     {
-        if !all_go_on(self.clocks.as_slice(), by) {
+        if !all_go_on(&self.clocks, by) {
             return Err(Refusal::Invalid);
         }
         let reply = self.world.play(Action::Pass(by))?;
@@ -101,40 +91,35 @@ impl Rehearsal {
 
     /// An input comes to a machine, with what its clock shows.
     pub(crate) fn input(&mut self, machine: u64, input: Input) -> Result<Reply, Refusal>
-        ensures reply { result ≡ input_reply (seen self.old) machine input }
-        ensures after { seen self.new ≡ input_after (seen self.old) machine input }
-        ensures refused { is_ok result ≡ false → seen self.new ≡ seen self.old }
+        ensures reply { result ≡ input_reply self.old machine input }
+        ensures after { self.new ≡ input_after self.old machine input }
+        ensures refused { OnErr result (self.new ≡ self.old) }
     {
         let at = machine as usize;
-        if at >= self.clocks.len() {
-            return Err(Refusal::Invalid);
-        }
-        let shown = self.clocks[at].shows();
+        let clock = self.clocks.get(at).ok_or(Refusal::Invalid)?;
+        let shown = clock.shows();
         self.world.play(Action::Input(at, shown, input))
     }
 
-    /// From now on a machine's clock runs so many parts in a million fast, or slow.
-    pub(crate) fn pace(&mut self, machine: u64, parts: u64, fast: bool) -> Result<(), Refusal>
-        ensures reply { result ≡ pace_reply (seen self.old) machine parts }
-        ensures after { seen self.new ≡ pace_after (seen self.old) machine parts fast }
-        ensures refused { is_ok result ≡ false → seen self.new ≡ seen self.old }
+    /// From now on a machine's clock runs so.
+    pub(crate) fn pace(&mut self, machine: u64, drift: Drift) -> Result<(), Refusal>
+        ensures reply { result ≡ pace_reply self.old machine drift }
+        ensures after { self.new ≡ pace_after self.old machine drift }
+        ensures refused { OnErr result (self.new ≡ self.old) }
     {
-        let at = machine as usize;
-        if at >= self.clocks.len() {
-            return Err(Refusal::Invalid);
-        }
-        let Some(changed) = paced(self.clocks[at], parts, fast) else {
-            return Err(Refusal::Invalid);
-        };
-        self.clocks[at] = changed;
+        let clock = self
+            .clocks
+            .get_mut(machine as usize)
+            .ok_or(Refusal::Invalid)?;
+        *clock = clock.drifting(drift).ok_or(Refusal::Invalid)?;
         Ok(())
     }
 
     /// The answer of a time server comes to a machine, with the number of the machine's last ask of it.
     pub(crate) fn answer(&mut self, machine: u64, server: u64, span: Span) -> Result<Reply, Refusal>
-        ensures reply { result ≡ input_reply (seen self.old) machine (answer_input (seen self.old) machine server span) }
-        ensures after { seen self.new ≡ input_after (seen self.old) machine (answer_input (seen self.old) machine server span) }
-        ensures refused { is_ok result ≡ false → seen self.new ≡ seen self.old }
+        ensures reply { result ≡ input_reply self.old machine (answer_input self.old machine server span) }
+        ensures after { self.new ≡ input_after self.old machine (answer_input self.old machine server span) }
+        ensures refused { OnErr result (self.new ≡ self.old) }
     {
         let number = self
             .world
@@ -145,7 +130,7 @@ impl Rehearsal {
 
     /// The span from the true time less one number to it plus another, kept within 0 and the highest number.
     pub(crate) fn around(&self, less: u64, more: u64) -> Span
-        ensures { result ≡ around_now (seen self.now) less more }
+        ensures { result ≡ around_now self.now less more }
     {
         let time = self.world.time();
         Span {
@@ -156,8 +141,6 @@ impl Rehearsal {
 }
 
 /// The promise of every rehearsal.
-pub fn rehearsals_hold() -> u8
+pub fn rehearsals_hold()
     ensures { RehearsalsHold }
-{
-    0
-}
+{}

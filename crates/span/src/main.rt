@@ -4,22 +4,20 @@
 //! machine does from `votes`, and how an answer is written from `answers`: here is only which call a request makes (`respond`).
 #![tactic(auto)]
 
-ghost use Rattle.std.specs.Prelude.{◌≡◌, ◌*◌, ◌≤◌, MatchOption};
-ghost use Rattle.votes.specs.Exchanges.{number_of, opened};
-ghost use Rattle.votes.specs.Seen.{view};
+ghost use Rattle.std.specs.Prelude.{◌≡◌, true, false, MatchOption};
+ghost use Rattle.votes.specs.Exchanges.{number_of, opened, valid_setup};
 ghost use Rattle.lines.specs.Spans.{span_line};
-ghost use Rattle.span.specs.Respond.{said_of, after_of, heard, heard_after};
+ghost use Rattle.span.specs.Respond.{setup_of, said_of, after_of, heard, heard_after};
 
 use answers::{Reply, Said, put_reply};
 use anyhow::anyhow;
 use clocks::growth::Span;
-use clocks::rates::Rate;
 use console::{Program, report, serve};
 use lines::{Line, SpanRequest, span_line};
 use std::alloc::AllocError;
 use std::env;
 use std::process::ExitCode;
-use votes::types::{Refusal, Votes};
+use votes::types::{Refusal, Setup, Votes};
 use words::number;
 
 const USAGE: &str = "usage: span M F RATE
@@ -50,8 +48,8 @@ fn refused(refusal: Refusal) -> Said
 
 // Which call a request makes, and what is said of its answer.
 fn respond(votes: &mut Votes, request: SpanRequest) -> Said
-    ensures said { result ≡ said_of (view votes.old) request }
-    ensures after { view votes.new ≡ after_of (view votes.old) request }
+    ensures said { result ≡ said_of votes.old request }
+    ensures after { votes.new ≡ after_of votes.old request }
 {
     match request {
         SpanRequest::Asked { server, clock } => match votes.ask(server as usize, clock) {
@@ -84,8 +82,8 @@ struct Machine {
 
 // What is said to a line, and nothing to one that is passed over.
 fn hear(votes: &mut Votes, line: &[u8]) -> Option<Said>
-    ensures said { result ≡ heard (view votes.old) (span_line line.now) }
-    ensures after { view votes.new ≡ heard_after (view votes.old) (span_line line.now) }
+    ensures said { result ≡ heard votes.old (span_line line.now) }
+    ensures after { votes.new ≡ heard_after votes.old (span_line line.now) }
 {
     match span_line(line) {
         Line::Nothing => None,
@@ -105,10 +103,14 @@ impl Program for Machine {
 
 // A machine that has asked nobody yet, if the numbers are in range.
 fn made(servers: u64, faulty: u64, rate: u64) -> Option<Machine>
-    ensures { MatchOption result (rate ≤ 1000 → servers ≤ 16 → servers ≤ 2 * faulty) (λ m. view m.votes ≡ opened rate servers faulty 1) }
+    ensures { MatchOption result (valid_setup (setup_of servers faulty rate) ≡ false) (λ m. (valid_setup (setup_of servers faulty rate) ≡ true) × (m.votes ≡ opened (setup_of servers faulty rate))) }
 {
-    let rate = Rate::new(rate)?;
-    let votes = Votes::new(servers as usize, faulty as usize, rate, 1)?;
+    let votes = Votes::new(Setup {
+        servers: servers as usize,
+        faulty: faulty as usize,
+        rate,
+        first: 1,
+    })?;
     Some(Machine { votes })
 }
 

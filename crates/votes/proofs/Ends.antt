@@ -1,11 +1,11 @@
 -- Which ends lie in enough of the spans.
-use Rattle.std.proofs.Common.{◌≡◌, ℕ, zero, suc, ◌≤◌, min, max, true, false, leb, ◌⊎◌, List, [], ◌∷◌, Some, None, Option, sym, refl, ap, ◌∙◌, subst, inl, inr, arith}
+use Rattle.std.proofs.Common.{◌≡◌, ℕ, zero, suc, ◌≤◌, min, max, true, false, leb, ◌⊎◌, List, [], ◌∷◌, fold, Some, None, Option, sym, refl, ap, ◌∙◌, subst, inl, inr, arith}
 use mathlib.Core.List.Memᴰ
 use mathlib.Core.List.{Memᴰ}
 use Rattle.std.proofs.lemmas.Bool.{cases_lt, cases_Bool, both_ways, and_parts, and_from, leb-true, le-leb, cond-true, cond-false}
 use Rattle.clocks.specs.declared.growth.Span.{Span}
 use Rattle.clocks.specs.Time.{covers, Holds}
-use Rattle.votes.specs.Counts.{vote, count, picked, outer, low_end, high_end, lowest, highest}
+use Rattle.votes.specs.Counts.{vote, count, picked, end_step, low_end, high_end, lowest, highest}
 
 pub holds_covers : (t : ℕ) (s : Span) → Holds s t → covers t s ≡ true
 holds_covers t s h = and_from (leb s.low t) (leb t s.high) (le-leb s.low t h.0) (le-leb t s.high h.1)
@@ -145,72 +145,77 @@ module _ (end : Span → ℕ) (pick : ℕ → ℕ → ℕ) (le : ℕ → ℕ →
   found_head s ss h = record { span = s; member = Memᴰ.head refl; ends = refl; enough = h }
 
   -- the better of what was found and one more
-  found_pick : (s : Span) (ss : List (Option Span)) (best : Option ℕ) (l : ℕ) → k ≤ count (end s) all → ((b : ℕ) → best ≡ Some b → Found ss b) → l ≡ picked pick best (end s) → Found (Some s ∷ ss) l
-  found_pick s ss None l h f e = subst (Found (Some s ∷ ss)) (sym e) (found_head s ss h)
-  found_pick s ss (Some b) l h f e =
-      elim (laws.either b (end s)) [
-        | inl p ↦ subst (Found (Some s ∷ ss)) (sym p ∙ sym e) (found_tail (Some s) ss b (f b refl))
-        | inr p ↦ subst (Found (Some s ∷ ss)) (sym p ∙ sym e) (found_head s ss h)
-      ]
+  -- one span more
+  abbrev step : Option ℕ → Option Span → Option ℕ
+  step best s = end_step end pick k all best s
 
-  pub found : (ss : List (Option Span)) (l : ℕ) → outer end pick k all ss ≡ Some l → Found ss l
-  unfolding outer
-  found [] l e = absurd (let z : ◌≡◌ {A = ℕ} 0 1 = cc in omega arith)
-  found (None ∷ ss) l e = found_tail None ss l (found ss l e)
-  found (Some s ∷ ss) l e =
-      let best : Option ℕ = outer end pick k all ss in
-      elim (cases_Bool (leb k (count (end s) all))) [
-        | inl t ↦
-            (let q = cond-true (leb k (count (end s) all)) (Some (picked pick best (end s))) best t in
-            let z : l ≡ picked pick best (end s) = cc in
-            found_pick s ss best l (leb-true k (count (end s) all) t) (found ss) z)
-        | inr t ↦
-            (let q = cond-false (leb k (count (end s) all)) (Some (picked pick best (end s))) best t in
-            let z : best ≡ Some l = cc in
-            found_tail (Some s) ss l (found ss l z))
-      ]
+  taken_step : (best : Option ℕ) (s : Span) → k ≤ count (end s) all → step best (Some s) ≡ Some (picked pick best (end s))
+  taken_step best s h = cond-true (leb k (count (end s) all)) (Some (picked pick best (end s))) best (le-leb k (count (end s) all) h)
 
-  -- and none of those ends is better
-  pub record Best (ss : List (Option Span)) (x : Span) : Type 0 where
-    pub best : ℕ
-    pub is : outer end pick k all ss ≡ Some best
-    pub first : le best (end x)
-
-  pub best_end : (ss : List (Option Span)) (x : Span) → Memᴰ (Some x) ss → k ≤ count (end x) all → Best ss x
-  unfolding outer
-  best_end [] x m h = absurd (Memᴰ.not-nil m)
-  best_end (None ∷ ss) x m h =
-      elim (Memᴰ.cases_cons m) [
-        | inl e ↦ absurd (let z : ◌≡◌ {A = ℕ} 0 1 = cc in omega arith)
-        | inr n ↦ (let b = best_end ss x n h in record { best = b.best; is = b.is; first = b.first })
-      ]
-  best_end (Some s ∷ ss) x m h =
-      let before : Option ℕ = outer end pick k all ss in
-      elim (Memᴰ.cases_cons m) [
-        | inl e ↦
-            (let z : x ≡ s = cc in
-            let t : leb k (count (end s) all) ≡ true = le-leb k (count (end s) all) (subst (λ y. k ≤ count (end y) all) z h) in
-            let q = cond-true (leb k (count (end s) all)) (Some (picked pick before (end s))) before t in
-            record { best = picked pick before (end s); is = q; first = subst (λ y. le (picked pick before (end s)) (end y)) (sym z) (at_head before (end s)) })
-        | inr n ↦
-            (let b = best_end ss x n h in
+  -- what is found over some spans is what was found before them, or an end of one of them
+  found_after : (ss : List (Option Span)) (best : Option ℕ) (l : ℕ) → fold step best ss ≡ Some l → (best ≡ Some l) ⊎ Found ss l
+  found_after [] best l e = inl e
+  found_after (None ∷ ss) best l e = elim (found_after ss best l e) [ inl b ↦ inl b | inr f ↦ inr (found_tail None ss l f) ]
+  found_after (Some s ∷ ss) best l e =
+      elim (found_after ss (step best (Some s)) l e) [
+        | inl b ↦
             elim (cases_Bool (leb k (count (end s) all))) [
-              | inl t ↦
-                  (let q = cond-true (leb k (count (end s) all)) (Some (picked pick before (end s))) before t in
-                  record {
-                    best = pick b.best (end s);
-                    is = q ∙ ap (λ o. Some (picked pick o (end s))) b.is;
-                    first = laws.trans (pick b.best (end s)) b.best (end x) (laws.left b.best (end s)) b.first;
-                  })
-              | inr t ↦
-                  (let q = cond-false (leb k (count (end s) all)) (Some (picked pick before (end s))) before t in
-                  record { best = b.best; is = q ∙ b.is; first = b.first })
-            ])
+              | inl t ↦ picked_from best (let q = cond-true (leb k (count (end s) all)) (Some (picked pick best (end s))) best t in let z : l ≡ picked pick best (end s) = cc in z) (leb-true k (count (end s) all) t)
+              | inr t ↦ inl (let q = cond-false (leb k (count (end s) all)) (Some (picked pick best (end s))) best t in sym q ∙ b)
+            ]
+        | inr f ↦ inr (found_tail (Some s) ss l f)
       ]
     where
-      at_head : (before : Option ℕ) (t : ℕ) → le (picked pick before t) t
-      at_head None t = laws.same t
-      at_head (Some b) t = laws.right b t
+      picked_from : (best : Option ℕ) → l ≡ picked pick best (end s) → k ≤ count (end s) all → (best ≡ Some l) ⊎ Found (Some s ∷ ss) l
+      picked_from None z h = inr (subst (Found (Some s ∷ ss)) (sym z) (found_head s ss h))
+      picked_from (Some b) z h =
+          elim (laws.either b (end s)) [
+            | inl p ↦ inl (ap Some (sym p ∙ sym z))
+            | inr p ↦ inr (subst (Found (Some s ∷ ss)) (sym p ∙ sym z) (found_head s ss h))
+          ]
+
+  pub found : (ss : List (Option Span)) (l : ℕ) → fold step None ss ≡ Some l → Found ss l
+  found ss l e = elim (found_after ss None l e) [ inl b ↦ absurd (let z : ◌≡◌ {A = ℕ} 0 1 = cc in omega arith) | inr f ↦ f ]
+
+  -- and it is no worse than a given end
+  pub record Best (o : Option ℕ) (t : ℕ) : Type 0 where
+    pub best : ℕ
+    pub is : o ≡ Some best
+    pub first : le best t
+
+  -- one span more makes nothing worse
+  kept_step : (best : Option ℕ) (s : Option Span) (t : ℕ) → Best best t → Best (step best s) t
+  kept_step best None t b = b
+  kept_step best (Some s) t b =
+      elim (cases_Bool (leb k (count (end s) all))) [
+        | inl h ↦
+            record {
+              best = pick b.best (end s);
+              is = cond-true (leb k (count (end s) all)) (Some (picked pick best (end s))) best h ∙ ap (λ o. Some (picked pick o (end s))) b.is;
+              first = laws.trans (pick b.best (end s)) b.best t (laws.left b.best (end s)) b.first;
+            }
+        | inr h ↦ record { best = b.best; is = cond-false (leb k (count (end s) all)) (Some (picked pick best (end s))) best h ∙ b.is; first = b.first }
+      ]
+
+  kept : (ss : List (Option Span)) (best : Option ℕ) (t : ℕ) → Best best t → Best (fold step best ss) t
+  kept [] best t b = b
+  kept (s ∷ ss) best t b = kept ss (step best s) t (kept_step best s t b)
+
+  best_end : (ss : List (Option Span)) (best : Option ℕ) (x : Span) → Memᴰ (Some x) ss → k ≤ count (end x) all → Best (fold step best ss) (end x)
+  best_end [] best x m h = absurd (Memᴰ.not-nil m)
+  best_end (s ∷ ss) best x m h =
+      elim (Memᴰ.cases_cons m) [
+        | inl e ↦
+            kept ss (step best s) (end x) (record { best = picked pick best (end x); is = ap (step best) (sym e) ∙ taken_step best x h; first = no_worse best (end x) })
+        | inr n ↦ best_end ss (step best s) x n h
+      ]
+    where
+      no_worse : (before : Option ℕ) (t : ℕ) → le (picked pick before t) t
+      no_worse None t = laws.same t
+      no_worse (Some b) t = laws.right b t
+
+  pub best_of : (ss : List (Option Span)) (x : Span) → Memᴰ (Some x) ss → k ≤ count (end x) all → Best (fold step None ss) (end x)
+  best_of ss x m h = best_end ss None x m h
 
 min_either : (a b : ℕ) → (min a b ≡ a) ⊎ (min a b ≡ b)
 min_either a b = elim (cases_lt a b) [ inl h ↦ inl (omega arith) | inr h ↦ inr (omega arith) ]
@@ -238,11 +243,11 @@ module _ (k : ℕ) (ss : List (Option Span)) where
   pub high_found : (h : ℕ) → highest k ss ≡ Some h → Found high_end max up highs k ss ss h
   high_found = found high_end max up highs k ss ss
 
-  pub low_best : (x : Span) → Memᴰ (Some x) ss → k ≤ count x.low ss → Best low_end min down lows k ss ss x
-  low_best = best_end low_end min down lows k ss ss
+  pub low_best : (x : Span) → Memᴰ (Some x) ss → k ≤ count x.low ss → Best low_end min down lows k ss (lowest k ss) x.low
+  low_best = best_of low_end min down lows k ss ss
 
-  pub high_best : (x : Span) → Memᴰ (Some x) ss → k ≤ count x.high ss → Best high_end max up highs k ss ss x
-  high_best = best_end high_end max up highs k ss ss
+  pub high_best : (x : Span) → Memᴰ (Some x) ss → k ≤ count x.high ss → Best high_end max up highs k ss (highest k ss) x.high
+  high_best = best_of high_end max up highs k ss ss
 
   pub low_at : (t : ℕ) → 1 ≤ k → k ≤ count t ss → (l : ℕ) × (lowest k ss ≡ Some l) × (l ≤ t)
   low_at t one h =

@@ -3,14 +3,14 @@ use Rattle.std.proofs.Common.{◌≡◌, ℕ, suc, ◌+◌, ◌-◌, ◌*◌, �
 use mathlib.Core.List.{Memᴰ}
 use Rattle.std.proofs.lemmas.List.{take-map}
 use Rattle.std.proofs.lemmas.Bool.{cases_lt, cond-true, le-leb}
-use Rattle.std.specs.Option.{ok_or}
+use Rattle.std.specs.Option.{ok_or, option_map}
 use Rattle.clocks.specs.declared.growth.Span.{Span}
 use Rattle.clocks.specs.Time.{RunsFrom, Holds, highest as highest_time, grown_to}
 use Rattle.clocks.proofs.Grows.{growth_holds_lem}
 use Rattle.votes.specs.declared.types.Exchange.{Exchange}
 use Rattle.votes.specs.declared.types.Refusal.TheVariants.{NoSpan}
 use Rattle.votes.specs.Counts.{vote, count, lowest, highest}
-use Rattle.votes.specs.Exchanges.{View, grown_known, grown_exchange, spans_at, between, span_of, span_reply}
+use Rattle.votes.specs.Exchanges.{View, grown_answer, grown_exchange, spans_at, between, span_of, span_reply}
 use Rattle.votes.specs.Promise.{AllBut, none, good, faulty, Honest, servers_of, Outermost, Trusted, Witness, Lawful, NoVotes, SpanGiven}
 use Rattle.votes.proofs.Steps.{vote_short}
 use Rattle.votes.proofs.Ends.{vote_in, vote_holds, low_found, high_found, low_best, high_best, low_at, high_at}
@@ -63,7 +63,7 @@ module _ (rate start time : ℕ) (c : ℕ → ℕ) (small : rate ≤ 1000) (runs
   honest_is : (clock : ℕ) → c time ≡ clock → (e : Exchange) (h : Honest c start time e) →
       grown_exchange rate clock e ≡ Some (grown_to rate (c h.asked) (c h.answered) (c time) h.answer.span)
   honest_is clock r e h =
-      ap (grown_known rate clock) h.known ∙ (let a = h.asked_reads in let b = h.answered_reads in
+      ap (option_map (grown_answer rate clock)) h.known ∙ (let a = h.asked_reads in let b = h.answered_reads in
       ap (λ n. Some (grown_to rate h.answer.asked h.answer.answered n h.answer.span)) (sym r)
       ∙ (ap (λ n. Some (grown_to rate n h.answer.answered (c time) h.answer.span)) (sym a)
       ∙ ap (λ n. Some (grown_to rate (c h.asked) n (c time) h.answer.span)) (sym b)))

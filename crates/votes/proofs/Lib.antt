@@ -1,3 +1,4 @@
-mod Steps
-mod Ends
+pub mod Steps
+pub mod Maps
+pub mod Ends
 pub mod Laws

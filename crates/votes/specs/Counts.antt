@@ -1,6 +1,7 @@
 -- The lowest of the lower ends, and the highest of the upper ends, that lie in at least so many of some spans. A time server
 -- that hasn't answered has no span: it offers no end, and no time lies in it.
-use Rattle.std.specs.Prelude.{ℕ, ◌+◌, min, max, cond, List, [], ◌∷◌, Some, None, Option, nat_le}
+use Rattle.std.specs.Prelude.{ℕ, ◌+◌, min, max, cond, List, [], ◌∷◌, fold, Some, None, Option, nat_le}
+use Rattle.std.specs.Option.{option_map_or}
 use Rattle.clocks.specs.declared.growth.Span.{Span}
 use Rattle.clocks.specs.Time.{covers}
 
@@ -16,17 +17,15 @@ count t (s ∷ ss) = vote t s + count t ss
 
 -- the best so far and one more, of which one is picked
 abbrev pub picked : (ℕ → ℕ → ℕ) → Option ℕ → ℕ → ℕ
-picked pick None t = t
-picked pick (Some b) t = pick b t
+picked pick best t = option_map_or (λ b. pick b t) best t
 
 -- one span more: its end is taken if it lies in at least k of all the spans
-abbrev pub end_step : (end : Span → ℕ) (pick : ℕ → ℕ → ℕ) → ℕ → List (Option Span) → Option Span → Option ℕ → Option ℕ
-end_step end pick k all None best = best
-end_step end pick k all (Some s) best = cond (nat_le k (count (end s) all)) (Some (picked pick best (end s))) best
+abbrev pub end_step : (end : Span → ℕ) (pick : ℕ → ℕ → ℕ) → ℕ → List (Option Span) → Option ℕ → Option Span → Option ℕ
+end_step end pick k all best None = best
+end_step end pick k all best (Some s) = cond (nat_le k (count (end s) all)) (Some (picked pick best (end s))) best
 
-unfoldable pub outer : (end : Span → ℕ) (pick : ℕ → ℕ → ℕ) → ℕ → List (Option Span) → List (Option Span) → Option ℕ
-outer end pick k all [] = None
-outer end pick k all (s ∷ ss) = end_step end pick k all s (outer end pick k all ss)
+abbrev pub outer : (end : Span → ℕ) (pick : ℕ → ℕ → ℕ) → ℕ → List (Option Span) → Option ℕ
+outer end pick k all = fold (end_step end pick k all) None all
 
 abbrev pub low_end : Span → ℕ
 low_end s = s.low
@@ -36,7 +35,7 @@ high_end s = s.high
 
 -- the lowest of the lower ends of the spans, and the highest of their upper ends, that lie in at least k of them
 abbrev pub lowest : ℕ → List (Option Span) → Option ℕ
-lowest k ss = outer low_end min k ss ss
+lowest k ss = outer low_end min k ss
 
 abbrev pub highest : ℕ → List (Option Span) → Option ℕ
-highest k ss = outer high_end max k ss ss
+highest k ss = outer high_end max k ss

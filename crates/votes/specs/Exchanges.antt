@@ -1,11 +1,11 @@
 -- A machine's exchanges with its time servers, and what each call answers and leaves behind.
-use Rattle.std.specs.Prelude.{ℕ, ◌+◌, ◌-◌, ◌%◌, Bool, false, cond, ◌&&◌, List, map, take, replicate, is_ok, Some, None, Ok, Err, Option, Result, ◌==◌, nat_le, nat_lt, slice_index_or, slice_set}
-use Rattle.std.specs.Option.{ok_or}
+use Rattle.std.specs.Prelude.{ℕ, ◌+◌, ◌-◌, ◌*◌, ◌%◌, Bool, false, cond, ◌&&◌, List, map, take, replicate, is_ok, Some, None, Ok, Err, Option, Result, ◌==◌, nat_le, nat_lt, slice_index_or, slice_set}
+use Rattle.std.specs.Option.{ok_or, option_map, option_map_or}
 use Rattle.clocks.specs.declared.growth.Span.{Span}
 use Rattle.clocks.specs.Time.{grown_to}
+use Rattle.votes.specs.declared.types.Setup.{Setup}
 use Rattle.votes.specs.declared.types.Ask.{Ask}
-use Rattle.votes.specs.declared.types.Known.{Known}
-use Rattle.votes.specs.declared.types.Known.TheVariants as known
+use Rattle.votes.specs.declared.types.Answer.{Answer}
 use Rattle.votes.specs.declared.types.Exchange.{Exchange}
 use Rattle.votes.specs.declared.types.Refusal.{Refusal}
 use Rattle.votes.specs.declared.types.Refusal.TheVariants.{Invalid, WrongNumber, NoSpan}
@@ -16,6 +16,10 @@ abbrev pub number_of : Refusal → ℕ
 number_of Invalid = 1
 number_of WrongNumber = 2
 number_of NoSpan = 3
+
+-- at most 16 time servers, twice as many as may be faulty below that, and a clock that is off by at most 1,000 parts in a million
+abbrev pub valid_setup : Setup → Bool
+valid_setup s = nat_le s.servers 16 && nat_lt (2 * s.faulty) s.servers && nat_le s.rate 1000
 
 -- rate: how far the clock may be off; servers: how many time servers count, the first of the exchanges; faulty: how many of them may be
 -- faulty; first: the number of each server's first ask; latest: the highest clock reading taken
@@ -29,11 +33,10 @@ pub record View : Type 0 where
 
 -- before the first ask and answer
 abbrev pub blank : Exchange
-blank = record { ask = None; known = known.Nothing }
+blank = record { ask = None; known = None }
 
-abbrev pub opened : (rate servers faulty first : ℕ) → View
-opened rate servers faulty first =
-    record { rate = rate; servers = servers; faulty = faulty; first = first; latest = 0; exchanges = replicate 16 blank }
+abbrev pub opened : Setup → View
+opened s = record { rate = s.rate; servers = s.servers; faulty = s.faulty; first = s.first; latest = 0; exchanges = replicate 16 blank }
 
 abbrev pub exchange : View → ℕ → Exchange
 exchange v server = slice_index_or v.exchanges server blank
@@ -49,8 +52,7 @@ fits v server clock = nat_lt server v.servers && nat_le v.latest clock
 
 -- asks are numbered for each server by itself, and wrap
 abbrev pub next_number : ℕ → Option Ask → ℕ
-next_number first None = first
-next_number first (Some a) = (a.number + 1) % 4294967296
+next_number first ask = option_map_or (λ a. (a.number + 1) % 4294967296) ask first
 
 -- ASK: the number of the ask
 abbrev pub ask_reply : View → ℕ → ℕ → Result ℕ Refusal
@@ -62,8 +64,7 @@ ask_after v server clock =
 
 -- the number of a server's last ask, if it is there and was asked
 abbrev pub ask_number : Option Ask → Option ℕ
-ask_number None = None
-ask_number (Some a) = Some a.number
+ask_number ask = option_map (λ a. a.number) ask
 
 abbrev pub last_number : View → ℕ → Option ℕ
 last_number v server = cond (nat_lt server v.servers) (ask_number (exchange v server).ask) None
@@ -73,9 +74,8 @@ abbrev pub answers : ℕ → Option Ask → Bool
 answers number None = false
 answers number (Some a) = a.number == number
 
-abbrev pub taken : Option Ask → Span → ℕ → Known
-taken None s clock = known.Nothing
-taken (Some a) s clock = known.Span (record { asked = a.clock; answered = clock; span = s })
+abbrev pub taken : Option Ask → Span → ℕ → Option Answer
+taken ask s clock = option_map (λ a. record { asked = a.clock; answered = clock; span = s }) ask
 
 abbrev pub answer_reply : View → ℕ → ℕ → Span → ℕ → Result (Unit {0}) Refusal
 answer_reply v server number s clock =
@@ -86,12 +86,11 @@ answer_after v server number s clock =
     cond (is_ok (answer_reply v server number s clock)) (noted v server (record { ask = (exchange v server).ask; known = taken (exchange v server).ask s clock }) clock) v
 
 -- SPAN: what each server's last answer has grown to, and the machine's span out of enough of them
-abbrev pub grown_known : ℕ → ℕ → Known → Option Span
-grown_known rate clock known.Nothing = None
-grown_known rate clock (known.Span a) = Some (grown_to rate a.asked a.answered clock a.span)
+abbrev pub grown_answer : ℕ → ℕ → Answer → Span
+grown_answer rate clock a = grown_to rate a.asked a.answered clock a.span
 
 abbrev pub grown_exchange : ℕ → ℕ → Exchange → Option Span
-grown_exchange rate clock e = grown_known rate clock e.known
+grown_exchange rate clock e = option_map (grown_answer rate clock) e.known
 
 abbrev pub spans_at : View → ℕ → List (Option Span)
 spans_at v clock = take v.servers (map (grown_exchange v.rate clock) v.exchanges)

@@ -1,5 +1,4 @@
 -- What the contracts of this crate cite.
 pub mod Counts
 pub mod Exchanges
-pub mod Seen
 pub mod Promise

@@ -4,7 +4,6 @@ use mathlib.Core.List.{Memᴰ}
 use Rattle.clocks.specs.declared.growth.Span.{Span}
 use Rattle.clocks.specs.Time.{RunsFrom, Holds, highest}
 use Rattle.votes.specs.declared.types.Answer.{Answer}
-use Rattle.votes.specs.declared.types.Known.TheVariants as known
 use Rattle.votes.specs.declared.types.Exchange.{Exchange}
 use Rattle.votes.specs.Counts.{count}
 use Rattle.votes.specs.Exchanges.{View, grown_exchange, spans_at, span_reply}
@@ -19,7 +18,7 @@ pub data AllBut {A : Type 0} (P : A → Type 0) : ℕ → List A → Type 0 wher
 -- the true time at some moment between its ask and its answer.
 pub record Honest (c : ℕ → ℕ) (start time : ℕ) (e : Exchange) : Type 0 where
   pub answer : Answer
-  pub known : e.known ≡ known.Span answer
+  pub known : e.known ≡ Some answer
   pub asked : ℕ
   pub held : ℕ
   pub answered : ℕ

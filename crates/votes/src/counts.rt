@@ -1,46 +1,17 @@
 //! The ends of spans that lie in enough of the spans.
 ghost use Rattle.std.specs.Prelude.{◌≡◌, min, max};
-ghost use Rattle.votes.specs.Counts.{vote, count, picked, end_step, low_end, high_end, lowest, highest};
+ghost use Rattle.votes.specs.Counts.{count, end_step, low_end, high_end, lowest, highest};
 
 use clocks::growth::Span;
 
-// One span's vote for a time: 1 if the time lies in it.
-fn vote(span: Option<Span>, time: u64) -> usize
-    ensures { result ≡ vote time span }
-{
-    match span {
-        Some(span) => { if span.covers(time) { 1 } else { 0 } }
-        None => 0,
-    }
-}
-
 // How many of the spans a time lies in.
-pub(crate) fn count(spans: &[Option<Span>], time: u64) -> usize
+fn count(spans: &[Option<Span>], time: u64) -> usize
     ensures { result ≡ count time spans.now }
 {
-    let mut votes: usize = 0;
-    for i in (0..spans.len()).rev() {
-        votes += vote(spans[i], time);
-    }
-    votes
-}
-
-fn least(best: Option<u64>, end: u64) -> u64
-    ensures { result ≡ picked min best end }
-{
-    match best {
-        Some(best) => best.min(end),
-        None => end,
-    }
-}
-
-fn greatest(best: Option<u64>, end: u64) -> u64
-    ensures { result ≡ picked max best end }
-{
-    match best {
-        Some(best) => best.max(end),
-        None => end,
-    }
+    spans
+        .iter()
+        .filter(|span| span.is_some_and(|span| span.covers(time)))
+        .count()
 }
 
 // The lowest lower end and the highest upper end found so far.
@@ -53,23 +24,20 @@ pub(crate) struct Ends {
 impl Ends {
     // With one more span's ends, if they lie in enough of all the spans.
     fn with(self, spans: &[Option<Span>], enough: usize, span: Option<Span>) -> Ends
-        ensures low { result.low ≡ end_step low_end min enough spans.now span self.low }
-        ensures high { result.high ≡ end_step high_end max enough spans.now span self.high }
+        ensures low { result.low ≡ end_step low_end min enough spans.now self.low span }
+        ensures high { result.high ≡ end_step high_end max enough spans.now self.high span }
     {
-        let Some(span) = span else {
+        let Some(Span { low, high }) = span else {
             return self;
         };
-        let low = if count(spans, span.low) >= enough {
-            Some(least(self.low, span.low))
-        } else {
-            self.low
-        };
-        let high = if count(spans, span.high) >= enough {
-            Some(greatest(self.high, span.high))
-        } else {
-            self.high
-        };
-        Ends { low, high }
+        let mut ends = self;
+        if count(spans, low) >= enough {
+            ends.low = Some(self.low.map_or(low, |best| best.min(low)));
+        }
+        if count(spans, high) >= enough {
+            ends.high = Some(self.high.map_or(high, |best| best.max(high)));
+        }
+        ends
     }
 }
 
@@ -82,8 +50,8 @@ pub(crate) fn outermost(spans: &[Option<Span>], enough: usize) -> Ends
         low: None,
         high: None,
     };
-    for i in (0..spans.len()).rev() {
-        found = found.with(spans, enough, spans[i]);
+    for span in spans {
+        found = found.with(spans, enough, *span);
     }
     found
 }

@@ -1,51 +1,56 @@
 //! The exchanges of a machine with its time servers. The calls stand in `calls`.
 ghost use Rattle.std.specs.Prelude.{◌≡◌, ◌*◌, ◌<◌, ◌≤◌, length};
+ghost use Rattle.votes.specs.Exchanges.{View};
 
 use clocks::growth::Span;
 use clocks::rates::Rate;
+use std::marker::Model;
 
 /// How many time servers a machine can go by.
 pub const SERVERS: usize = 16;
 
+/// What a machine is made with: how many time servers it goes by, how many of them may be faulty, how far its clock may be off, and the
+/// number of its first ask of each time server.
+#[derive(Clone, Copy, PartialEq, Eq, Debug)]
+pub struct Setup {
+    pub servers: usize,
+    pub faulty: usize,
+    pub rate: u64,
+    pub first: u32,
+}
+
 /// An ask of a time server: its number, and what the clock showed.
-#[derive(Clone, Copy)]
+#[derive(Clone, Copy, PartialEq, Eq, Debug)]
 pub struct Ask {
     pub number: u32,
     pub clock: u64,
 }
 
 /// An answer of a time server: its span, what the clock showed at the ask that it answers, and what it showed when it came.
-#[derive(Clone, Copy)]
+#[derive(Clone, Copy, PartialEq, Eq, Debug)]
 pub struct Answer {
     pub asked: u64,
     pub answered: u64,
     pub span: Span,
 }
 
-/// What is known from a time server since the machine came up: the span of its last answer, or nothing, which counts as a span of
-/// no numbers.
-#[derive(Clone, Copy)]
-pub enum Known {
-    Nothing,
-    Span(Answer),
-}
-
-/// One time server's exchange with the machine: the last ask, and the last answer (which may be to an earlier ask).
-#[derive(Clone, Copy)]
+/// One time server's exchange with the machine: the last ask, and the last answer (which may be to an earlier ask). A server that hasn't
+/// answered since the machine came up counts as a span of no numbers.
+#[derive(Clone, Copy, PartialEq, Eq, Debug)]
 pub struct Exchange {
     pub ask: Option<Ask>,
-    pub known: Known,
+    pub known: Option<Answer>,
 }
 
-/// Why a call was refused; nothing has changed then. Each case has its number (specs/Exchanges, number_of).
+/// Why a call was refused; nothing has changed then. Each case has its number.
 #[derive(Clone, Copy, PartialEq, Eq, Debug)]
 pub enum Refusal {
-    /// a time server that is not there, a lower end above the upper end, or a clock reading below an earlier one: 1
-    Invalid,
-    /// not the number of the last ask of that time server: 2
-    WrongNumber,
-    /// no time lies in enough of the spans: 3
-    NoSpan,
+    /// a time server that is not there, a lower end above the upper end, or a clock reading below an earlier one
+    Invalid = 1,
+    /// not the number of the last ask of that time server
+    WrongNumber = 2,
+    /// no time lies in enough of the spans
+    NoSpan = 3,
 }
 
 /// A machine's exchanges with its time servers.
@@ -59,7 +64,14 @@ pub struct Votes {
     // the highest clock reading taken
     pub(crate) latest: u64,
     pub(crate) exchanges: [Exchange; SERVERS],
-    ghost few: { servers ≤ 16 },
-    ghost minority: { 2 * faulty < servers },
-    ghost sixteen: { length exchanges ≡ 16 },
+}
+
+impl Model for Votes {
+    ghost Value = { View };
+
+    ghost view = { λ v. record { rate = v.rate; servers = v.servers; faulty = v.faulty; first = v.first; latest = v.latest; exchanges = v.exchanges } };
+
+    ghost invariant = { λ v. (v.rate ≤ 1000) × (v.servers ≤ 16) × (2 * v.faulty < v.servers) × (length v.exchanges ≡ 16) };
+
+    ghost inverse = { λ v. record { rate = v.rate; servers = v.servers; faulty = v.faulty; first = v.first; latest = v.latest; exchanges = v.exchanges } };
 }

@@ -5,10 +5,10 @@ use Rattle.std.proofs.lemmas.Bool.{cases_lt, cases_eq}
 use Rattle.votes.specs.declared.types.Ask.{Ask}
 use Rattle.votes.specs.declared.types.Answer.{Answer}
 use Rattle.votes.specs.declared.types.Exchange.{Exchange}
-use Rattle.votes.specs.declared.types.Known.TheVariants as known
 use Rattle.votes.specs.Exchanges.{exchange, blank}
 use Rattle.world.specs.declared.machine.Moments.{Moments}
-use Rattle.world.specs.Step.{MachineView, never, moment_of}
+use Rattle.world.specs.declared.machine.Machine.{Machine}
+use Rattle.world.specs.Step.{never, moment_of}
 use Rattle.world.specs.Promise.{Noted}
 use Rattle.world.proofs.Changes.{touched, asked_exchange, asked_moments, answered_exchange, answered_moments, Change, same, asks, answered, looks}
 
@@ -19,7 +19,7 @@ pub record Past (t : ℕ) (m : Moments) : Type 0 where
   pub answered : m.answered ≤ t
 
 -- a machine's numbers are in range, and what it noted lies in the past
-pub record SoundMachine (t : ℕ) (m : MachineView) : Type 0 where
+pub record SoundMachine (t : ℕ) (m : Machine) : Type 0 where
   pub looked : m.looked ≤ t
   pub rate : m.votes.rate ≤ 1000
   pub minority : 2 * m.votes.faulty < m.votes.servers
@@ -44,7 +44,7 @@ past_later : (t u : ℕ) (m : Moments) → t ≤ u → Past t m → Past u m
 past_later t u m h p =
     let a = p.asked in let b = p.answered in record { asked = omega arith; begun = p.begun; answered = omega arith }
 
-pub sound_later : (t u : ℕ) (m : MachineView) → t ≤ u → SoundMachine t m → SoundMachine u m
+pub sound_later : (t u : ℕ) (m : Machine) → t ≤ u → SoundMachine t m → SoundMachine u m
 sound_later t u m h p =
     let l = p.looked in
     record {
@@ -56,7 +56,7 @@ sound_later t u m h p =
       past = λ i. past_later t u (moment_of m i) h (p.past i);
     }
 
-module _ (m : MachineView) (time clock : ℕ) (ok : SoundMachine time m) where
+module _ (m : Machine) (time clock : ℕ) (ok : SoundMachine time m) where
   touched_sound : (s : ℕ) (e : Exchange) (k : Moments) → Past time k → SoundMachine time (touched m s e k time clock)
   touched_sound s e k p =
       let es = ok.exchanges in let ms = ok.moments in
@@ -69,7 +69,7 @@ module _ (m : MachineView) (time clock : ℕ) (ok : SoundMachine time m) where
         past = λ i. elim (set_cases m.moments s k i never) [ inl q ↦ subst (Past time) (sym q) p | inr q ↦ subst (Past time) (sym q) (ok.past i) ];
       }
 
-  pub change_sound : {n : MachineView} → Change m time clock n → SoundMachine time n
+  pub change_sound : {n : Machine} → Change m time clock n → SoundMachine time n
   change_sound same = ok
   change_sound (asks s number h) =
       let p = ok.past s in
@@ -85,16 +85,16 @@ module _ (m : MachineView) (time clock : ℕ) (ok : SoundMachine time m) where
 -- an exchange and its moments agree with a clock
 record Agree (c : ℕ → ℕ) (e : Exchange) (k : Moments) : Type 0 where
   asks : (a : Ask) → e.ask ≡ Some a → a.clock ≡ c k.asked
-  begun : (a : Answer) → e.known ≡ known.Span a → a.asked ≡ c k.begun
-  answered : (a : Answer) → e.known ≡ known.Span a → a.answered ≡ c k.answered
+  begun : (a : Answer) → e.known ≡ Some a → a.asked ≡ c k.begun
+  answered : (a : Answer) → e.known ≡ Some a → a.answered ≡ c k.answered
 
-agree_at : (c : ℕ → ℕ) (m : MachineView) → Noted c m → (i : ℕ) → Agree c (exchange m.votes i) (moment_of m i)
+agree_at : (c : ℕ → ℕ) (m : Machine) → Noted c m → (i : ℕ) → Agree c (exchange m.votes i) (moment_of m i)
 agree_at c m n i = record { asks = n.asks i; begun = n.begun i; answered = n.answered i }
 
-from_agree : (c : ℕ → ℕ) (m : MachineView) → m.votes.latest ≤ c m.looked → ((i : ℕ) → Agree c (exchange m.votes i) (moment_of m i)) → Noted c m
+from_agree : (c : ℕ → ℕ) (m : Machine) → m.votes.latest ≤ c m.looked → ((i : ℕ) → Agree c (exchange m.votes i) (moment_of m i)) → Noted c m
 from_agree c m l f = record { latest = l; asks = λ i. (f i).asks; begun = λ i. (f i).begun; answered = λ i. (f i).answered }
 
-module _ (c : ℕ → ℕ) (m : MachineView) (time clock : ℕ) (ok : SoundMachine time m) (reads : clock ≡ c time) (n : Noted c m) where
+module _ (c : ℕ → ℕ) (m : Machine) (time clock : ℕ) (ok : SoundMachine time m) (reads : clock ≡ c time) (n : Noted c m) where
   touched_noted : (s : ℕ) (e : Exchange) (k : Moments) → s < m.votes.servers → Agree c e k → Noted c (touched m s e k time clock)
   touched_noted s e k h g =
       from_agree c (touched m s e k time clock) (omega arith)
@@ -111,7 +111,7 @@ module _ (c : ℕ → ℕ) (m : MachineView) (time clock : ℕ) (ok : SoundMachi
             subst (λ x. Agree c x (get_or (set m.moments s k) i never)) (sym p) (subst (Agree c (exchange m.votes i)) (sym r) (agree_at c m n i)))
       ])
 
-  pub change_noted : {x : MachineView} → Change m time clock x → Noted c x
+  pub change_noted : {x : Machine} → Change m time clock x → Noted c x
   change_noted same = n
   change_noted (asks s number h) =
       touched_noted s (asked_exchange m s number clock) (asked_moments m s time) h

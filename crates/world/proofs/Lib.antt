@@ -1,6 +1,3 @@
-mod Acts
-mod Setups
 mod Changes
 mod Keeps
 pub mod Worlds
-mod Refuses

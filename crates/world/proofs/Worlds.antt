@@ -3,27 +3,27 @@ use Rattle.std.proofs.Common.{◌≡◌, ℕ, zero, suc, ◌+◌, ◌*◌, ◌<�
 use mathlib.Core.Logic.{∥∥₁_elim}
 use denote.Struct.Props.{props}
 use Rattle.std.proofs.lemmas.List.{length-map, get_or-map}
-use Rattle.std.proofs.lemmas.Bool.{cases_eq, cond-true, leb-true, ltb-true, lt-ltb, and_parts}
-use Rattle.std.specs.List.{range_with_len}
+use Rattle.std.proofs.lemmas.Bool.{cases_Bool, both_ways, cases_eq, cond-true, leb-true, ltb-true, lt-ltb, and_parts}
+use Rattle.std.specs.List.{range_with_len, list_all}
+use Rattle.std.proofs.lemmas.List.Folds.{list_all_at}
 use Rattle.clocks.specs.declared.growth.Span.{Span}
 use Rattle.clocks.specs.Time.{RunsFrom, Holds, highest}
 use Rattle.votes.specs.declared.types.Exchange.{Exchange}
-use Rattle.votes.specs.declared.types.Refusal.{Refusal as VotesRefusal}
-use Rattle.votes.specs.Exchanges.{exchange, blank, span_reply}
+use Rattle.votes.specs.declared.types.Setup.{Setup}
+use Rattle.votes.specs.declared.types.Refusal.{Refusal}
+use Rattle.votes.specs.Exchanges.{exchange, blank, valid_setup, span_reply}
 use Rattle.votes.specs.Promise.{AllBut, none, good, faulty, Honest}
 use Rattle.votes.specs.Promise.{Trusted as VotesTrusted}
 use Rattle.votes.proofs.Laws.{span_given_lem}
-use Rattle.world.specs.declared.actions.Setup.{Setup}
 use Rattle.world.specs.declared.actions.Input.{Input}
 use Rattle.world.specs.declared.actions.Input.TheVariants as input
 use Rattle.world.specs.declared.actions.Action.{Action}
 use Rattle.world.specs.declared.actions.Action.TheVariants as action
 use Rattle.world.specs.declared.actions.Reply.{Reply}
 use Rattle.world.specs.declared.actions.Reply.TheVariants as reply
-use Rattle.world.specs.declared.actions.Refusal.{Refusal}
-use Rattle.world.specs.Step.{MachineView, WorldView, valid_setup, all_valid, valid, made, start, never, nobody, moment_of, machine_of, machine_after, spanned, reply_of, step, run}
+use Rattle.world.specs.declared.machine.Machine.{Machine}
+use Rattle.world.specs.Step.{WorldView, valid, made, start, never, nobody, moment_of, machine_of, machine_after, spanned, reply_of, step, run}
 use Rattle.world.specs.Promise.{Truthful, Noted, Given, Trusted, SpanTrue, Reads, SpansHold, Reached}
-use Rattle.world.proofs.Setups.{empty, nth_valid}
 use Rattle.world.proofs.Changes.{Change, same, asks, answered, looks, changes}
 use Rattle.world.proofs.Keeps.{Past, SoundMachine, sound_later, change_sound, change_noted}
 
@@ -55,7 +55,7 @@ module _ (w : WorldView) (j clock : ℕ) (i : Input) where
   taken_other k n = get_or-set_other w.machines j k (machine_after (machine_of w j) w.now clock i) nobody n
 
   -- what holds of one machine before and is kept by a change holds after
-  taken_keeps : (P : MachineView → Type 0) (k : ℕ) → j < length w.machines → P (machine_of w k) → (k ≡ j → P (machine_after (machine_of w k) w.now clock i)) → P (machine_of taken k)
+  taken_keeps : (P : Machine → Type 0) (k : ℕ) → j < length w.machines → P (machine_of w k) → (k ≡ j → P (machine_after (machine_of w k) w.now clock i)) → P (machine_of taken k)
   taken_keeps P k h p f =
       elim (cases_eq k j) [
         | inl e ↦ subst (λ x. P (machine_of taken x)) (sym e) (subst P (sym (taken_same h)) (subst (λ x. P (machine_after (machine_of w x) w.now clock i)) e (f e)))
@@ -94,10 +94,10 @@ step_length w (action.Input j clock i) =
     by_test (λ x. length x.machines ≡ length w.machines) (ltb j (length w.machines)) (taken w j clock i) w (λ e. taken_length w j clock i) refl
 
 -- a machine's rate stays
-rate_after : (m : MachineView) (time clock : ℕ) (i : Input) → (machine_after m time clock i).votes.rate ≡ m.votes.rate
+rate_after : (m : Machine) (time clock : ℕ) (i : Input) → (machine_after m time clock i).votes.rate ≡ m.votes.rate
 rate_after m time clock i = kept (changes m time clock i)
   where
-    kept : {n : MachineView} → Change m time clock n → n.votes.rate ≡ m.votes.rate
+    kept : {n : Machine} → Change m time clock n → n.votes.rate ≡ m.votes.rate
     kept same = refl
     kept (asks s number h) = refl
     kept (answered s a sp h e) = refl
@@ -171,9 +171,20 @@ made_noted s c =
       answered = λ i a e. absurd (let q = ap (λ (x : Exchange). x.known) (b i) in let z : ◌≡◌ {A = ℕ} 0 1 = cc in omega arith);
     }
 
+empty : Setup
+empty = record { servers = 0; faulty = 0; rate = 0; first = 0 }
+
+-- of setups that are all in range each is
+nth_valid : (ss : List Setup) (k : ℕ) → list_all valid_setup ss ≡ true → k < length ss → valid_setup (get_or ss k empty) ≡ true
+nth_valid ss k e h =
+    elim (cases_Bool (valid_setup (get_or ss k empty))) [
+      | inl t ↦ t
+      | inr f ↦ absurd (both_ways (list_all valid_setup ss) (list_all_at valid_setup ss k empty h f) e)
+    ]
+
 module _ (ss : List Setup) (v : valid ss ≡ true) where
-  all_valid_lem : all_valid ss ≡ true
-  all_valid_lem = (and_parts (leb 1 (length ss) && leb (length ss) 8) (all_valid ss) v).1
+  all_valid_lem : list_all valid_setup ss ≡ true
+  all_valid_lem = (and_parts (leb 1 (length ss) && leb (length ss) 8) (list_all valid_setup ss) v).1
 
   start_machine : (k : ℕ) → k < length ss → machine_of (start ss) k ≡ made (get_or ss k empty)
   start_machine k h = get_or-map made ss k empty nobody h
@@ -205,7 +216,7 @@ reached_sound w r = subst Sound (sym r.leads) (run_sound (start r.setups) r.acti
 -- THE PROMISE
 
 -- a server that is truthful, for a machine that noted what its clock showed, is honest
-module _ (c : ℕ → ℕ) (time : ℕ) (m : MachineView) (ok : SoundMachine time m) (n : Noted c m) where
+module _ (c : ℕ → ℕ) (time : ℕ) (m : Machine) (ok : SoundMachine time m) (n : Noted c m) where
   honest : (i : ℕ) → Truthful m i → Honest c 0 time (exchange m.votes i)
   honest i t =
       record {
@@ -235,7 +246,7 @@ module _ (c : ℕ → ℕ) (time : ℕ) (m : MachineView) (ok : SoundMachine tim
       subst (λ x. AllBut (Honest c 0 time) (suc f) (take (suc l) x)) (sym (one_more a (omega arith))) (faulty (few f (a + 1) l (omega arith) rest))
 
 -- the reply of a machine whose votes give a span
-spanned_given : (r : Result Span VotesRefusal) (s : Span) (t : ℕ) → r ≡ Ok s → Holds s t → Given (spanned r) t
+spanned_given : (r : Result Span Refusal) (s : Span) (t : ℕ) → r ≡ Ok s → Holds s t → Given (spanned r) t
 spanned_given (Ok x) s t e h = let z : x ≡ s = cc in subst (λ y. Holds y t) (sym z) h
 spanned_given (Err e) s t p h = absurd (let z : ◌≡◌ {A = ℕ} 0 1 = cc in omega arith)
 

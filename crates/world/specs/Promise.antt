@@ -2,39 +2,39 @@
 use Rattle.std.specs.Prelude.{◌≡◌, ℕ, ◌<◌, ◌≤◌, true, List, [], ◌∷◌, length, Some, Ok, Err, Result}
 use Rattle.std.specs.List.{range_with_len}
 use Rattle.clocks.specs.Time.{RunsFrom, Holds}
+use Rattle.votes.specs.declared.types.Setup.{Setup}
 use Rattle.votes.specs.declared.types.Ask.{Ask}
 use Rattle.votes.specs.declared.types.Answer.{Answer}
-use Rattle.votes.specs.declared.types.Known.TheVariants as known
+use Rattle.votes.specs.declared.types.Refusal.{Refusal}
 use Rattle.votes.specs.Exchanges.{exchange}
 use Rattle.votes.specs.Promise.{AllBut}
-use Rattle.world.specs.declared.actions.Setup.{Setup}
 use Rattle.world.specs.declared.actions.Input.TheVariants as input
 use Rattle.world.specs.declared.actions.Action.{Action}
 use Rattle.world.specs.declared.actions.Action.TheVariants as action
 use Rattle.world.specs.declared.actions.Reply.{Reply}
 use Rattle.world.specs.declared.actions.Reply.TheVariants as reply
-use Rattle.world.specs.declared.actions.Refusal.{Refusal}
-use Rattle.world.specs.Step.{MachineView, WorldView, moment_of, machine_of, valid, start, reply_of, step, run}
+use Rattle.world.specs.declared.machine.Machine.{Machine}
+use Rattle.world.specs.Step.{WorldView, moment_of, machine_of, valid, start, reply_of, step, run}
 
 -- A time server did not lie: it has answered, and its last answer held the true time at some moment between its ask and its taking.
-pub record Truthful (m : MachineView) (server : ℕ) : Type 0 where
+pub record Truthful (m : Machine) (server : ℕ) : Type 0 where
   pub answer : Answer
-  pub known : (exchange m.votes server).known ≡ known.Span answer
+  pub known : (exchange m.votes server).known ≡ Some answer
   pub held : ℕ
   pub early : (moment_of m server).begun ≤ held
   pub late : held ≤ (moment_of m server).answered
   pub holds : Holds answer.span held
 
 -- At most f of a machine's time servers lie or haven't answered.
-abbrev pub FewFaulty : MachineView → Type 0
+abbrev pub FewFaulty : Machine → Type 0
 FewFaulty m = AllBut (Truthful m) m.votes.faulty (range_with_len 0 m.votes.servers)
 
 -- What a machine noted of its clock's readings is what the clock c showed at those true times.
-pub record Noted (c : ℕ → ℕ) (m : MachineView) : Type 0 where
+pub record Noted (c : ℕ → ℕ) (m : Machine) : Type 0 where
   pub latest : m.votes.latest ≤ c m.looked
   pub asks : (i : ℕ) (a : Ask) → (exchange m.votes i).ask ≡ Some a → a.clock ≡ c (moment_of m i).asked
-  pub begun : (i : ℕ) (a : Answer) → (exchange m.votes i).known ≡ known.Span a → a.asked ≡ c (moment_of m i).begun
-  pub answered : (i : ℕ) (a : Answer) → (exchange m.votes i).known ≡ known.Span a → a.answered ≡ c (moment_of m i).answered
+  pub begun : (i : ℕ) (a : Answer) → (exchange m.votes i).known ≡ Some a → a.asked ≡ c (moment_of m i).begun
+  pub answered : (i : ℕ) (a : Answer) → (exchange m.votes i).known ≡ Some a → a.answered ≡ c (moment_of m i).answered
 
 -- a span was given, and it holds this time
 abbrev pub Given : Result Reply Refusal → ℕ → Type 0

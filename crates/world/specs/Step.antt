@@ -1,105 +1,84 @@
 -- What one action does to a world, as total functions on its view.
-use Rattle.std.specs.Prelude.{◌≡◌, ℕ, ◌+◌, ◌*◌, Bool, true, false, cond, ◌&&◌, List, [], ◌∷◌, map, length, replicate, is_ok, None, Ok, Err, Option, Result, nat_le, nat_lt, slice_index_or, slice_set}
+use Rattle.std.specs.Prelude.{◌≡◌, ℕ, ◌+◌, Bool, true, false, cond, ◌&&◌, List, [], ◌∷◌, map, length, replicate, is_ok, None, Ok, Err, Option, Result, nat_le, nat_lt, slice_index_or, slice_set}
+use Rattle.std.specs.List.{list_all}
 use Rattle.clocks.specs.declared.growth.Span.{Span}
 use Rattle.clocks.specs.Time.{highest}
-use Rattle.votes.specs.declared.types.Refusal.TheVariants as votes
-use Rattle.votes.specs.declared.types.Refusal.{Refusal as VotesRefusal}
-use Rattle.votes.specs.Exchanges.{View, opened, last_number, ask_reply, ask_after, answer_reply, answer_after, span_reply, span_after}
-use Rattle.world.specs.declared.actions.Setup.{Setup}
+use Rattle.votes.specs.declared.types.Setup.{Setup}
+use Rattle.votes.specs.declared.types.Refusal.{Refusal}
+use Rattle.votes.specs.declared.types.Refusal.TheVariants.{Invalid}
+use Rattle.votes.specs.Exchanges.{valid_setup, opened, last_number, ask_reply, ask_after, answer_reply, answer_after, span_reply, span_after}
 use Rattle.world.specs.declared.actions.Input.{Input}
 use Rattle.world.specs.declared.actions.Input.TheVariants as input
 use Rattle.world.specs.declared.actions.Action.{Action}
 use Rattle.world.specs.declared.actions.Action.TheVariants as action
 use Rattle.world.specs.declared.actions.Reply.{Reply}
 use Rattle.world.specs.declared.actions.Reply.TheVariants as reply
-use Rattle.world.specs.declared.actions.Refusal.{Refusal}
-use Rattle.world.specs.declared.actions.Refusal.TheVariants.{Invalid, WrongNumber, NoSpan, Memory}
+use Rattle.world.specs.declared.actions.NotMade.{NotMade}
+use Rattle.world.specs.declared.actions.NotMade.TheVariants as not_made
+use Rattle.world.specs.declared.machine.Machine.{Machine}
 use Rattle.world.specs.declared.machine.Moments.{Moments}
-
--- each refusal's number
-abbrev pub number_of : Refusal → ℕ
-number_of Invalid = 1
-number_of WrongNumber = 2
-number_of NoSpan = 3
-number_of Memory = 99
-
-abbrev pub refusal_of : VotesRefusal → Refusal
-refusal_of votes.Invalid = Invalid
-refusal_of votes.WrongNumber = WrongNumber
-refusal_of votes.NoSpan = NoSpan
-
--- A machine with its exchanges; moments: the true times of each exchange; looked: the true time of the last clock reading that it took.
-pub record MachineView : Type 0 where
-  pub votes : View
-  pub moments : List Moments
-  pub looked : ℕ
 
 -- A world: the true time, and its machines.
 pub record WorldView : Type 0 where
   pub now : ℕ
-  pub machines : List MachineView
+  pub machines : List Machine
 
 -- MAKING
-
-abbrev pub valid_setup : Setup → Bool
-valid_setup s = nat_le s.servers 16 && nat_lt (2 * s.faulty) s.servers && nat_le s.rate 1000
 
 abbrev pub never : Moments
 never = record { asked = 0; begun = 0; answered = 0 }
 
-abbrev pub made : Setup → MachineView
-made s = record { votes = opened s.rate s.servers s.faulty s.first; moments = replicate 16 never; looked = 0 }
-
-unfoldable pub all_valid : List Setup → Bool
-all_valid [] = true
-all_valid (s ∷ ss) = valid_setup s && all_valid ss
+abbrev pub made : Setup → Machine
+made s = record { votes = opened s; moments = replicate 16 never; looked = 0 }
 
 -- 1 to 8 machines, each in range
 abbrev pub valid : List Setup → Bool
-valid ss = nat_le 1 (length ss) && nat_le (length ss) 8 && all_valid ss
+valid ss = nat_le 1 (length ss) && nat_le (length ss) 8 && list_all valid_setup ss
 
--- what a world that is not made is refused by: 1 where a setup is out of range, want of memory otherwise
-abbrev pub Refused : List Setup → Refusal → Type 0
-Refused ss Invalid = valid ss ≡ false
-Refused ss WrongNumber = ⊥
-Refused ss NoSpan = ⊥
-Refused ss Memory = valid ss ≡ true
+-- why a world is not made: a number of machines or a setup that is out of range, or else want of memory; each with its number
+abbrev pub number_of : NotMade → ℕ
+number_of not_made.Invalid = 1
+number_of not_made.Memory = 99
+
+abbrev pub Refused : List Setup → NotMade → Type 0
+Refused ss not_made.Invalid = valid ss ≡ false
+Refused ss not_made.Memory = valid ss ≡ true
 
 abbrev pub start : List Setup → WorldView
 start ss = record { now = 0; machines = map made ss }
 
 -- ONE MACHINE, at a true time and a clock reading
 
-abbrev pub asked : Result ℕ VotesRefusal → Result Reply Refusal
+abbrev pub asked : Result ℕ Refusal → Result Reply Refusal
 asked (Ok n) = Ok (reply.Asked n)
-asked (Err e) = Err (refusal_of e)
+asked (Err e) = Err e
 
-abbrev pub taken : Result (Unit {0}) VotesRefusal → Result Reply Refusal
+abbrev pub taken : Result (Unit {0}) Refusal → Result Reply Refusal
 taken (Ok x) = Ok reply.Taken
-taken (Err e) = Err (refusal_of e)
+taken (Err e) = Err e
 
-abbrev pub spanned : Result Span VotesRefusal → Result Reply Refusal
+abbrev pub spanned : Result Span Refusal → Result Reply Refusal
 spanned (Ok s) = Ok (reply.Span s)
-spanned (Err e) = Err (refusal_of e)
+spanned (Err e) = Err e
 
-abbrev pub machine_reply : MachineView → ℕ → Input → Result Reply Refusal
+abbrev pub machine_reply : Machine → ℕ → Input → Result Reply Refusal
 machine_reply m clock (input.Ask server) = asked (ask_reply m.votes server clock)
 machine_reply m clock (input.Answer server number s) = taken (answer_reply m.votes server number s clock)
 machine_reply m clock input.Span = spanned (span_reply m.votes clock)
 
 -- the exchange with a server is noted at a true time
-abbrev pub moment_of : MachineView → ℕ → Moments
+abbrev pub moment_of : Machine → ℕ → Moments
 moment_of m server = slice_index_or m.moments server never
 
-abbrev pub note_ask : MachineView → ℕ → ℕ → List Moments
+abbrev pub note_ask : Machine → ℕ → ℕ → List Moments
 note_ask m server time =
     slice_set m.moments server (record { asked = time; begun = (moment_of m server).begun; answered = (moment_of m server).answered })
 
-abbrev pub note_answer : MachineView → ℕ → ℕ → List Moments
+abbrev pub note_answer : Machine → ℕ → ℕ → List Moments
 note_answer m server time =
     slice_set m.moments server (record { asked = (moment_of m server).asked; begun = (moment_of m server).asked; answered = time })
 
-abbrev pub machine_after : MachineView → ℕ → ℕ → Input → MachineView
+abbrev pub machine_after : Machine → ℕ → ℕ → Input → Machine
 machine_after m time clock (input.Ask server) =
     cond (is_ok (ask_reply m.votes server clock)) (record { votes = ask_after m.votes server clock; moments = note_ask m server time; looked = time }) m
 machine_after m time clock (input.Answer server number s) =
@@ -109,10 +88,10 @@ machine_after m time clock input.Span =
 
 -- THE WORLD
 
-abbrev pub nobody : MachineView
-nobody = record { votes = opened 0 0 0 0; moments = []; looked = 0 }
+abbrev pub nobody : Machine
+nobody = record { votes = opened (record { servers = 0; faulty = 0; rate = 0; first = 0 }); moments = []; looked = 0 }
 
-abbrev pub machine_of : WorldView → ℕ → MachineView
+abbrev pub machine_of : WorldView → ℕ → Machine
 machine_of w k = slice_index_or w.machines k nobody
 
 -- the number of a machine's last ask of a server, if both are there and it was asked

@@ -1,22 +1,27 @@
 //! One machine of a world, with the true times of its exchanges beside it. The machine itself never sees those; they are noted
 //! because the promise speaks of them.
 ghost use Rattle.std.specs.Prelude.{◌≡◌, true, false, MatchOption};
-ghost use Rattle.world.specs.Step.{valid_setup, made, machine_reply, machine_after};
-ghost use Rattle.votes.specs.Exchanges.{last_number};
-ghost use Rattle.world.specs.Seen.{seen};
+ghost use Rattle.world.specs.Step.{made, machine_reply, machine_after};
+ghost use Rattle.votes.specs.Exchanges.{valid_setup, last_number};
 ghost use Rattle.world.specs.declared.actions.Input.TheVariants as inputs;
 
-use crate::actions::{Input, Refusal, Reply, Setup};
+use crate::actions::{Input, Reply};
 use clocks::growth::Span;
-use clocks::rates::Rate;
-use votes::types::{SERVERS, Votes};
+use votes::types::{Refusal, SERVERS, Setup, Votes};
 
 /// The true times of one time server's exchange: of the last ask, of the ask that the last answer was to, and of that answer.
-#[derive(Clone, Copy)]
+#[derive(Clone, Copy, PartialEq, Eq, Debug)]
 pub struct Moments {
     pub asked: u64,
     pub begun: u64,
     pub answered: u64,
+}
+
+/// What a machine's clock shows, and the true time then.
+#[derive(Clone, Copy)]
+pub(crate) struct Reading {
+    pub(crate) time: u64,
+    pub(crate) clock: u64,
 }
 
 /// A machine, the true times of its exchanges, and the true time of the last clock reading that it took.
@@ -30,17 +35,15 @@ pub struct Machine {
 impl Machine {
     // A machine that comes up at true time 0; nothing where its setup is out of range.
     pub(crate) fn new(setup: Setup) -> Option<Machine>
-        ensures { MatchOption result (valid_setup setup ≡ false) (λ m. (valid_setup setup ≡ true) × (seen m ≡ made setup)) }
+        ensures { MatchOption result (valid_setup setup ≡ false) (λ m. (valid_setup setup ≡ true) × (m ≡ made setup)) }
     {
-        let rate = Rate::new(setup.rate)?;
-        let votes = Votes::new(setup.servers, setup.faulty, rate, setup.first)?;
         let never = Moments {
             asked: 0,
             begun: 0,
             answered: 0,
         };
         Some(Machine {
-            votes,
+            votes: Votes::new(setup)?,
             moments: [never; SERVERS],
             looked: 0,
         })
@@ -48,66 +51,57 @@ impl Machine {
 
     // The number of the last ask of a time server, if it is there and was asked.
     pub(crate) fn last_ask(&self, server: usize) -> Option<u32>
-        ensures { result ≡ last_number (seen self.now).votes server }
+        ensures { result ≡ last_number self.now.votes server }
     {
         self.votes.last_ask(server)
     }
 
-    fn ask(&mut self, time: u64, clock: u64, server: usize) -> Result<Reply, Refusal>
-        ensures reply { result ≡ machine_reply (seen self.old) clock (inputs.Ask server) }
-        ensures after { seen self.new ≡ machine_after (seen self.old) time clock (inputs.Ask server) }
+    fn ask(&mut self, at: Reading, server: usize) -> Result<Reply, Refusal>
+        ensures reply { result ≡ machine_reply self.old at.clock (inputs.Ask server) }
+        ensures after { self.new ≡ machine_after self.old at.time at.clock (inputs.Ask server) }
     {
-        let number = self.votes.ask(server, clock)?;
-        let moments = self.moments[server];
-        self.moments[server] = Moments {
-            asked: time,
-            begun: moments.begun,
-            answered: moments.answered,
-        };
-        self.looked = time;
+        let number = self.votes.ask(server, at.clock)?;
+        self.moments[server].asked = at.time;
+        self.looked = at.time;
         Ok(Reply::Asked(number))
     }
 
     fn answer(
         &mut self,
-        time: u64,
-        clock: u64,
+        at: Reading,
         server: usize,
         number: u32,
         span: Span,
     ) -> Result<Reply, Refusal>
-        ensures reply { result ≡ machine_reply (seen self.old) clock (inputs.Answer server number span) }
-        ensures after { seen self.new ≡ machine_after (seen self.old) time clock (inputs.Answer server number span) }
+        ensures reply { result ≡ machine_reply self.old at.clock (inputs.Answer server number span) }
+        ensures after { self.new ≡ machine_after self.old at.time at.clock (inputs.Answer server number span) }
     {
-        self.votes.answer(server, number, span, clock)?;
-        let asked = self.moments[server].asked;
-        self.moments[server] = Moments {
-            asked,
-            begun: asked,
-            answered: time,
-        };
-        self.looked = time;
+        self.votes.answer(server, number, span, at.clock)?;
+        let moments = &mut self.moments[server];
+        moments.begun = moments.asked;
+        moments.answered = at.time;
+        self.looked = at.time;
         Ok(Reply::Taken)
     }
 
-    fn span(&mut self, time: u64, clock: u64) -> Result<Reply, Refusal>
-        ensures reply { result ≡ machine_reply (seen self.old) clock inputs.Span }
-        ensures after { seen self.new ≡ machine_after (seen self.old) time clock inputs.Span }
+    fn span(&mut self, at: Reading) -> Result<Reply, Refusal>
+        ensures reply { result ≡ machine_reply self.old at.clock inputs.Span }
+        ensures after { self.new ≡ machine_after self.old at.time at.clock inputs.Span }
     {
-        let span = self.votes.span(clock)?;
-        self.looked = time;
+        let span = self.votes.span(at.clock)?;
+        self.looked = at.time;
         Ok(Reply::Span(span))
     }
 
     // Takes an input, at a true time and with what its clock shows.
-    pub(crate) fn take(&mut self, time: u64, clock: u64, input: Input) -> Result<Reply, Refusal>
-        ensures reply { result ≡ machine_reply (seen self.old) clock input }
-        ensures after { seen self.new ≡ machine_after (seen self.old) time clock input }
+    pub(crate) fn take(&mut self, at: Reading, input: Input) -> Result<Reply, Refusal>
+        ensures reply { result ≡ machine_reply self.old at.clock input }
+        ensures after { self.new ≡ machine_after self.old at.time at.clock input }
     {
         match input {
-            Input::Ask(server) => self.ask(time, clock, server),
-            Input::Answer(server, number, span) => self.answer(time, clock, server, number, span),
-            Input::Span => self.span(time, clock),
+            Input::Ask(server) => self.ask(at, server),
+            Input::Answer(server, number, span) => self.answer(at, server, number, span),
+            Input::Span => self.span(at),
         }
     }
 }

@@ -1,26 +1,26 @@
 //! The calls of a world.
-ghost use Rattle.std.specs.Prelude.{◌≡◌, true, false, is_ok, MatchResult};
+ghost use Rattle.std.specs.Prelude.{◌≡◌, true, OnErr, MatchResult};
 ghost use Rattle.world.specs.Promise.{SpanTrue, SpansHold};
 ghost use Rattle.world.specs.Step.{valid, Refused, start, last_ask, reply_of, step};
-ghost use Rattle.world.specs.Staged.{view};
 
-use crate::actions::{Action, Refusal, Reply, Setup};
+use crate::actions::{Action, NotMade, Reply};
 use crate::stage::Stage;
 use crate::types::World;
 use std::alloc::Global;
+use votes::types::{Refusal, Setup};
 
 impl World {
     // The world of a stage that nothing has happened on: no action led to it.
     fn at_start(setups: &[Setup], stage: Stage) -> World
-        requires { (valid setups.now ≡ true) × (view stage ≡ start setups.now) }
-        ensures { view result.stage ≡ view stage }
+        requires { (valid setups.now ≡ true) × (stage ≡ start setups.now) }
+        ensures { result ≡ stage }
     {
         World { stage }
     }
 
     /// A world of 1 to 8 machines, at true time 0, or why there is none.
-    pub fn new(heap: Global, setups: &[Setup]) -> Result<World, Refusal>
-        ensures { MatchResult result (λ w. (valid setups.now ≡ true) × (view w.stage ≡ start setups.now)) (λ e. Refused setups.now e) }
+    pub fn new(heap: Global, setups: &[Setup]) -> Result<World, NotMade>
+        ensures { MatchResult result (λ w. (valid setups.now ≡ true) × (w ≡ start setups.now)) (λ e. Refused setups.now e) }
     {
         let stage = Stage::new(heap, setups)?;
         Ok(World::at_start(setups, stage))
@@ -28,42 +28,40 @@ impl World {
 
     /// The true time.
     pub fn time(&self) -> u64
-        ensures { result ≡ (view self.now.stage).now }
+        ensures { result ≡ self.now.now }
     {
         self.stage.time
     }
 
     /// The number of the last ask that a machine made of a time server, if both are there and it was asked.
     pub fn last_ask(&self, machine: usize, server: usize) -> Option<u32>
-        ensures { result ≡ last_ask (view self.now.stage) machine server }
+        ensures { result ≡ last_ask self.now machine server }
     {
         self.stage.last_ask(machine, server)
     }
 
     // What `play` does. The proof of it stands here, so that `play` itself needs none, and a wrong call in it is refused where it stands.
     fn act(&mut self, action: Action) -> Result<Reply, Refusal>
-        ensures reply { result ≡ reply_of (view self.old.stage) action }
-        ensures after { view self.new.stage ≡ step (view self.old.stage) action }
-        ensures refused { is_ok result ≡ false → view self.new.stage ≡ view self.old.stage }
-        ensures promise { SpanTrue (view self.old.stage) action result }
+        ensures reply { result ≡ reply_of self.old action }
+        ensures after { self.new ≡ step self.old action }
+        ensures refused { OnErr result (self.new ≡ self.old) }
+        ensures promise { SpanTrue self.old action result }
     {
         self.stage.act(action)
     }
 
     /// Plays one action. A machine that is to be trusted, asked for its span, gives one that holds the true time.
     pub fn play(&mut self, action: Action) -> Result<Reply, Refusal>
-        ensures reply { result ≡ reply_of (view self.old.stage) action }
-        ensures after { view self.new.stage ≡ step (view self.old.stage) action }
-        ensures refused { is_ok result ≡ false → view self.new.stage ≡ view self.old.stage }
-        ensures promise { SpanTrue (view self.old.stage) action result }
+        ensures reply { result ≡ reply_of self.old action }
+        ensures after { self.new ≡ step self.old action }
+        ensures refused { OnErr result (self.new ≡ self.old) }
+        ensures promise { SpanTrue self.old action result }
     {
         self.act(action)
     }
 }
 
 /// The promise over every list of actions.
-pub fn spans_hold() -> u8
+pub fn spans_hold()
     ensures { SpansHold }
-{
-    0
-}
+{}

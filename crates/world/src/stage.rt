@@ -1,13 +1,15 @@
 //! The machines of a world and the true time, with the actions played on them.
-ghost use Rattle.std.specs.Prelude.{◌≡◌, true, MatchResult};
-ghost use Rattle.world.specs.Step.{all_valid, valid, Refused, start, last_ask, reply_of, step};
-ghost use Rattle.world.specs.Staged.{view};
+ghost use Rattle.std.specs.Prelude.{◌≡◌, true, vec_items, MatchResult};
+ghost use Rattle.std.specs.List.{list_all};
+ghost use Rattle.votes.specs.Exchanges.{valid_setup};
+ghost use Rattle.world.specs.Step.{WorldView, valid, Refused, start, last_ask, reply_of, step};
 ghost use Rattle.world.specs.declared.actions.Action.TheVariants as actions;
 
-use crate::actions::{Action, Input, Refusal, Reply, Setup};
-use crate::machine::Machine;
-use clocks::growth::HIGHEST;
+use crate::actions::{Action, Input, NotMade, Reply};
+use crate::machine::{Machine, Reading};
 use std::alloc::Global;
+use std::marker::Model;
+use votes::types::{Refusal, Setup};
 
 // The most machines that a world can have.
 const MACHINES: usize = 8;
@@ -19,26 +21,34 @@ pub(crate) struct Stage {
     pub(crate) machines: Vec<Machine>,
 }
 
-// Are all setups in range?
+// Is each setup in range?
 fn all_valid(setups: &[Setup]) -> bool
-    ensures { result ≡ all_valid setups.now }
+    ensures { result ≡ list_all valid_setup setups.now }
 {
-    for setup in setups {
-        if !setup.is_valid() {
-            return false;
-        }
-    }
-    true
+    setups.iter().all(Setup::is_valid)
+}
+
+// Are there 1 to 8 machines, each in range?
+fn are_valid(setups: &[Setup]) -> bool
+    ensures { result ≡ valid setups.now }
+{
+    (1..=MACHINES).contains(&setups.len()) && all_valid(setups)
+}
+
+impl Model for Stage {
+    ghost Value = { WorldView };
+
+    ghost view = { λ s. record { now = s.time; machines = vec_items s.machines } };
 }
 
 impl Stage {
     // A machine for each setup, at true time 0.
-    pub(crate) fn new(heap: Global, setups: &[Setup]) -> Result<Stage, Refusal>
-        ensures { MatchResult result (λ s. (valid setups.now ≡ true) × (view s ≡ start setups.now)) (λ e. Refused setups.now e) }
+    pub(crate) fn new(heap: Global, setups: &[Setup]) -> Result<Stage, NotMade>
+        ensures { MatchResult result (λ s. (valid setups.now ≡ true) × (s ≡ start setups.now)) (λ e. Refused setups.now e) }
     {
         // before anything is allocated, since an invalid setup comes before want of memory
-        if setups.len() < 1 || setups.len() > MACHINES || !all_valid(setups) {
-            return Err(Refusal::Invalid);
+        if !are_valid(setups) {
+            return Err(NotMade::Invalid);
         }
         let mut machines = Vec::new(heap);
         for setup in setups {
@@ -51,31 +61,29 @@ impl Stage {
     }
 
     fn pass(&mut self, by: u64) -> Result<Reply, Refusal>
-        ensures reply { result ≡ reply_of (view self.old) (actions.Pass by) }
-        ensures after { view self.new ≡ step (view self.old) (actions.Pass by) }
+        ensures reply { result ≡ reply_of self.old (actions.Pass by) }
+        ensures after { self.new ≡ step self.old (actions.Pass by) }
     {
-        if by > HIGHEST - self.time {
-            return Err(Refusal::Invalid);
-        }
-        self.time += by;
+        self.time = self.time.checked_add(by).ok_or(Refusal::Invalid)?;
         Ok(Reply::Passed)
     }
 
     fn input(&mut self, machine: usize, clock: u64, input: Input) -> Result<Reply, Refusal>
-        ensures reply { result ≡ reply_of (view self.old) (actions.Input machine clock input) }
-        ensures after { view self.new ≡ step (view self.old) (actions.Input machine clock input) }
+        ensures reply { result ≡ reply_of self.old (actions.Input machine clock input) }
+        ensures after { self.new ≡ step self.old (actions.Input machine clock input) }
     {
-        if machine >= self.machines.len() {
-            return Err(Refusal::Invalid);
-        }
-        let time = self.time;
-        self.machines[machine].take(time, clock, input)
+        let at = Reading {
+            time: self.time,
+            clock,
+        };
+        let machine = self.machines.get_mut(machine).ok_or(Refusal::Invalid)?;
+        machine.take(at, input)
     }
 
     // Plays one action.
     pub(crate) fn act(&mut self, action: Action) -> Result<Reply, Refusal>
-        ensures reply { result ≡ reply_of (view self.old) action }
-        ensures after { view self.new ≡ step (view self.old) action }
+        ensures reply { result ≡ reply_of self.old action }
+        ensures after { self.new ≡ step self.old action }
     {
         match action {
             Action::Pass(by) => self.pass(by),
@@ -85,11 +93,8 @@ impl Stage {
 
     // The number of the last ask that a machine made of a time server, if both are there and it was asked.
     pub(crate) fn last_ask(&self, machine: usize, server: usize) -> Option<u32>
-        ensures { result ≡ last_ask (view self.now) machine server }
+        ensures { result ≡ last_ask self.now machine server }
     {
-        if machine >= self.machines.len() {
-            return None;
-        }
-        self.machines[machine].last_ask(server)
+        self.machines.get(machine)?.last_ask(server)
     }
 }

@@ -1,8 +1,7 @@
-use Rattle.std.proofs.Common.{◌≡◌, ◌++◌, map, take, drop, vec_items, vec_len}
-use Rattle.rehearse.specs.Rehearsals.{dial_of, passed}
+use Rattle.std.proofs.Common.{◌≡◌, ◌++◌, map, take, drop}
+use Rattle.clocks.specs.Counting.{pass, turned}
 use Rattle.rehearse.proofs.rehearsal.pass_each.Given as goal
 
-abbrev pub invariant-loop-i : goal.invariant-loop-i
-invariant-loop-i l =
-    (vec_len l.clocks ≡ vec_len l.initial.clocks)
-    × (map dial_of (vec_items l.clocks) ≡ map (passed l.by) (take l.i (map dial_of (vec_items l.initial.clocks))) ++ drop l.i (map dial_of (vec_items l.initial.clocks)))
+abbrev pub invariant-loop-clock : goal.invariant-loop-clock
+invariant-loop-clock l =
+    l.clock-items ≡ map (turned (pass l.by)) (take l.clock-index l.initial.clock-items) ++ drop l.clock-index l.initial.clock-items

@@ -1,13 +1,11 @@
-use Rattle.std.proofs.Common.{arith}
-use Rattle.votes.specs.Seen.{view}
+use Rattle.std.proofs.Common.{◌*◌, ◌<◌, ◌≤◌, length, subst, arith}
+use Rattle.votes.specs.Exchanges.{View}
 use Rattle.votes.proofs.Laws.{chosen_laws}
 use Rattle.votes.proofs.types.Votes.chosen.Goals as goal
 
-pub returns : goal.returns
-returns c =
-    let v = c.args.self.now in
-    record {
-      value = c.chosen_by_rule.ensures;
-      laws =
-          chosen_laws (view c.args.self.now) c.args.clock v.rate.small v.minority (let n = v.few in let m = v.sixteen in omega arith) c.chosen_by_rule.result c.chosen_by_rule.ensures;
-    }
+pub returns-clause-laws : goal.returns-clause-laws
+returns-clause-laws c =
+    let i = c.self.invariant in
+    chosen_laws c.args.self.now c.args.clock (subst (λ (v : View). v.rate ≤ 1000) c.self.view_is i.0)
+    (subst (λ (v : View). 2 * v.faulty < v.servers) c.self.view_is i.2) (subst (λ (v : View). v.servers ≤ length v.exchanges) c.self.view_is (omega (arith, i.1, i.3)))
+    c.chosen_by_rule.result c.chosen_by_rule.ensures

@@ -1,15 +1,9 @@
-use Rattle.std.proofs.Common.{arith, length-set}
-use Rattle.votes.specs.Exchanges.{blank, grown_exchange}
-use Rattle.votes.proofs.Steps.{fill_more, fill_all}
+use Rattle.std.proofs.Common.{◌≡◌, map, subst, rules}
+use Rattle.votes.specs.Exchanges.{View, grown_exchange}
+use Rattle.votes.proofs.Maps.{map_is}
 use Rattle.votes.proofs.types.Votes.grown.Goals as goal
-
-pub loop-i-preserved : goal.loop-i-preserved
-loop-i-preserved c =
-    let n = c.args.self.now.sixteen in (
-      simp length-set c.loop-i.invariant.0,
-      fill_more (grown_exchange c.args.self.now.rate.parts c.args.clock) c.args.self.now.exchanges c.loop-i.spans c.loop-i.i blank c.grown.result (omega (arith, n)) (omega (arith, c.loop-i.invariant.0)) c.loop-i.invariant.1 c.grown.ensures,
-    )
 
 pub returns : goal.returns
 returns c =
-    fill_all (grown_exchange c.args.self.now.rate.parts c.args.clock) c.args.self.now.exchanges c.loop-i.spans c.loop-i.i (omega (arith, c.args.self.now.sixteen)) (omega (arith, c.loop-i.invariant.0)) c.loop-i.invariant.1
+    subst (λ (v : View). c.map.result ≡ map (grown_exchange v.rate c.args.clock) v.exchanges) c.self.view_is
+    (map_is _ (grown_exchange c.self.inside.rate c.args.clock) _ (λ x y q k. search rules) c.self.inside.exchanges c.map.result 16 c.self.invariant.3 c.map.ensures.items)
