@@ -1,7 +1,7 @@
 -- The promise of every rehearsal: its moves are actions of its world, and turns of each of its clocks.
-use Rattle.std.proofs.Common.{◌≡◌, ℕ, zero, suc, ◌+◌, ◌-◌, ◌<◌, ◌≤◌, Bool, true, false, cond, ◌&&◌, eqb, ltb, leb, List, [], ◌∷◌, ◌++◌, map, length, get_or, take, set, replicate, is_ok, Ok, Err, sym, refl, ap, ◌∙◌, subst, inl, inr, append_assoc, arith, length-set, get_or-set_other, get_or-set_same}
+use Rattle.std.proofs.Common.{◌≡◌, ℕ, zero, suc, ◌+◌, ◌-◌, ◌<◌, ◌≤◌, Bool, true, false, cond, ◌&&◌, eqb, ltb, leb, List, [], ◌∷◌, ◌++◌, map, length, get_or, take, set, replicate, is_ok, Ok, Err, sym, refl, ap, ◌∙◌, subst, inl, inr, append_assoc, append-nil, arith, length-set, get_or-set_other, get_or-set_same}
 use lib.ListN.{length-replicate, get_or-replicate}
-use Rattle.std.proofs.lemmas.List.{length-map, get_or-map}
+use Rattle.std.proofs.lemmas.List.{length-map, get_or-map, take-replicate}
 use Rattle.std.proofs.lemmas.Bool.{cases_Bool, cases_eq, cond_both, cond-true, cond-false, and_parts, and_from, and_left, and_right, leb-true, eqb-true, eq-eqb, ne_eqb, lt-ltb}
 use Rattle.clocks.specs.Time.{million, highest, RunsFrom}
 use Rattle.clocks.specs.declared.counting.Drift.{Drift}
@@ -72,10 +72,6 @@ within_both rate [] us p q = q
 within_both rate (pass by ∷ ts) us p q = within_both rate ts us p q
 within_both rate (change x ∷ ts) us p q = (p.0, p.1, within_both rate ts us p.2 q)
 
-nothing_more : (ts : List Turn) → ts ++ [] ≡ ts
-nothing_more [] = refl
-nothing_more (t ∷ ts) = ap (λ l. t ∷ l) (nothing_more ts)
-
 -- ONE MOVE, as actions of the world
 
 one_or_none : (b : Bool) (w : WorldView) (a : Action) (x y : RehearsalView) → x.world ≡ step w a → y.world ≡ w → run w (cond b (a ∷ []) []) ≡ (cond b x y).world
@@ -102,7 +98,7 @@ module _ (k rate : ℕ) where
     time : elapsed ts ≡ v.world.now
 
   at_same : (v : RehearsalView) (ts us : List Turn) → us ≡ [] → At v ts → At v (ts ++ us)
-  at_same v ts us e a = subst (At v) (sym (ap (λ l. ts ++ l) e ∙ nothing_more ts)) a
+  at_same v ts us e a = subst (At v) (sym (ap (λ l. ts ++ l) e ∙ append-nil ts)) a
 
   ok_time : (a b : Bool) (r : Reply) → is_ok {T = Reply} {E = Refusal} (cond a (cond b (Ok r) (Err Invalid)) (Err Invalid)) ≡ true → b ≡ true
   ok_time true true r e = refl
@@ -229,7 +225,7 @@ module _ (k rate : ℕ) where
 
     over : (v : RehearsalView) (ts : List Turn) (moves : List Move) → all ≡ ts ++ turns_of k v moves → At v ts → Over v moves
     unfolding actions_of turns_of plays run
-    over v ts [] e a = record { reads = tt; runs = refl; end = subst (At v) (sym (e ∙ nothing_more ts)) a }
+    over v ts [] e a = record { reads = tt; runs = refl; end = subst (At v) (sym (e ∙ append-nil ts)) a }
     over v ts (m ∷ moves) e a =
         let o = over (play v m) (ts ++ move_turns k v m) moves (e ∙ sym (append_assoc ts (move_turns k v m) (turns_of k (play v m) moves))) (moved v ts m a) in
         let w = move_runs v m in
@@ -241,14 +237,9 @@ module _ (k rate : ℕ) where
 
 -- THE PROMISE
 
-take_same : {A : Type 0} (m n : ℕ) (x : A) → m ≤ n → take m (replicate n x) ≡ replicate m x
-take_same zero n x h = refl
-take_same (suc m) zero x h = absurd (omega arith)
-take_same (suc m) (suc n) x h = ap (λ l. x ∷ l) (take_same m n x (omega arith))
-
 module _ (machines : ℕ) (s : Setup) (four : machines ≤ 4) (k : ℕ) (h : k < machines) where
   setups_are : take machines (replicate 4 s) ≡ replicate machines s
-  setups_are = take_same machines 4 s four
+  setups_are = take-replicate machines 4 s four
 
   setup_there : k < length (take machines (replicate 4 s))
   setup_there = let e = ap length setups_are in let l = length-replicate machines s in omega arith
@@ -280,7 +271,7 @@ module _ (machines : ℕ) (s : Setup) (four : machines ≤ 4) (k : ℕ) (h : k <
         let clock = counting_runs_lem s.rate (turns_of k (opening machines s) moves) small within in
         let o = over k s.rate clock.0 (turns_of k (opening machines s) moves) clock.2 (opening machines s) [] moves refl at_start in
         let at = o.end in
-        let here = clock.2 (turns_of k (opening machines s) moves) [] (sym (nothing_more (turns_of k (opening machines s) moves))) in
+        let here = clock.2 (turns_of k (opening machines s) moves) [] (sym (append-nil (turns_of k (opening machines s) moves))) in
         let now_is : clock.0 (run (start (take machines (replicate 4 s))) (actions_of (opening machines s) moves)).now ≡ shown (dial_at v k).counting =
         ap (λ (w : WorldView). clock.0 w.now) o.runs ∙ (ap clock.0 (sym at.time) ∙ (here ∙ ap shown (sym at.counts))) in
         let g = spans_hold_lem (take machines (replicate 4 s)) ok (actions_of (opening machines s) moves) k (shown (dial_at v k).counting) clock.0 setup_there

@@ -44,6 +44,7 @@ fn fresh_clocks(heap: Global, rate: Rate, count: usize) -> Result<Vec<Clock>, Al
 #[derive(Drop)]
 pub(crate) struct Rehearsal {
     world: World,
+    // not in the machines of the world, which takes any clock reading
     clocks: Vec<Clock>,
 }
 
@@ -61,6 +62,7 @@ impl Rehearsal {
         if machines > MACHINES as u64 {
             return Err(NotMade::Invalid);
         }
+        // an array, so that there is no want of memory before the world itself tells what is wrong
         let setups = [setup; MACHINES];
         let world = World::new(heap, &setups[..machines as usize])?;
         let rate = Rate::new(setup.rate).unwrap();
@@ -115,17 +117,13 @@ impl Rehearsal {
         Ok(())
     }
 
-    /// The answer of a time server comes to a machine, with the number of the machine's last ask of it.
-    pub(crate) fn answer(&mut self, machine: u64, server: u64, span: Span) -> Result<Reply, Refusal>
-        ensures reply { result ≡ input_reply self.old machine (answer_input self.old machine server span) }
-        ensures after { self.new ≡ input_after self.old machine (answer_input self.old machine server span) }
-        ensures refused { OnErr result (self.new ≡ self.old) }
+    /// The answer of a time server, with the number of the machine's last ask of it; where there was none, no number fits.
+    pub(crate) fn answer(&self, machine: u64, server: u64, span: Span) -> Input
+        ensures { result ≡ answer_input self.now machine server span }
     {
-        let number = self
-            .world
-            .last_ask(machine as usize, server as usize)
-            .unwrap_or(0);
-        self.input(machine, Input::Answer(server as usize, number, span))
+        let server = server as usize;
+        let number = self.world.last_ask(machine as usize, server).unwrap_or(0);
+        Input::Answer(server, number, span)
     }
 
     /// The span from the true time less one number to it plus another, kept within 0 and the highest number.

@@ -1,7 +1,6 @@
 //! What each request of a script does.
 ghost use Rattle.std.specs.Prelude.{◌≡◌, None};
 ghost use Rattle.lines.specs.Scripts.{script_line};
-ghost use Rattle.rehearse.specs.Rehearsals.{answer_input};
 ghost use Rattle.rehearse.specs.Responds.{Begins, Heard, OnInput, OnPace, OnPass, Responds, Scripted, machine_says, not_taken, pace_done, refused_as, said_of, time_of, world_says};
 
 use super::rehearsal::Rehearsal;
@@ -91,13 +90,6 @@ impl Rehearsal {
         by_machine(self.time(), machine, outcome)
     }
 
-    fn on_answer(&mut self, machine: u64, server: u64, span: Span) -> Reply
-        ensures { OnInput self.old machine (answer_input self.old machine server span) self.new result }
-    {
-        let outcome = self.answer(machine, server, span);
-        by_machine(self.time(), machine, outcome)
-    }
-
     // Plays a request to the world that is there; a new world is not its to begin.
     fn respond(&mut self, request: ScriptRequest) -> Option<Reply>
         ensures { Responds self.old request self.new result }
@@ -119,15 +111,18 @@ impl Rehearsal {
                 server,
                 low,
                 high,
-            } => Some(self.on_answer(machine, server, Span { low, high })),
+            } => {
+                let answer = self.answer(machine, server, Span { low, high });
+                Some(self.on_input(machine, answer))
+            }
             ScriptRequest::Honest {
                 machine,
                 server,
                 less,
                 more,
             } => {
-                let span = self.around(less, more);
-                Some(self.on_answer(machine, server, span))
+                let answer = self.answer(machine, server, self.around(less, more));
+                Some(self.on_input(machine, answer))
             }
             ScriptRequest::Span { machine } => Some(self.on_input(machine, Input::Span)),
         }

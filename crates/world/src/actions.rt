@@ -39,6 +39,7 @@ pub enum NotMade {
     Memory = 99,
 }
 
+// Both of std's errors at a want of memory are converted, since std has no conversion that `?` would take first.
 impl From<AllocError> for NotMade {
     ghost from_gives = { λ _ r. r ≡ Memory };
 

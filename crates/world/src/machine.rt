@@ -28,6 +28,7 @@ pub(crate) struct Reading {
 #[derive(Clone, Copy)]
 pub struct Machine {
     pub(crate) votes: Votes,
+    // not in the exchanges of `votes`, since a machine never sees true times
     pub(crate) moments: [Moments; SERVERS],
     pub(crate) looked: u64,
 }
