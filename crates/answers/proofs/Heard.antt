@@ -7,10 +7,10 @@ use Rattle.std.specs.Str.{all_ascii_digits}
 use Rattle.std.proofs.ByRecursion.{All-append}
 use Rattle.std.proofs.lemmas.Bool.{and_parts, both_ways, leb-true}
 use Rattle.words.specs.Laws.{Whole}
-use Rattle.words.specs.Numbers.{number_of, two_of}
+use Rattle.words.specs.Numbers.{number_of, plain}
 use Rattle.words.specs.Words.{spaced, joined}
 use Rattle.words.proofs.Joins.{joined_words}
-use Rattle.words.proofs.Plainly.{then_at}
+use Rattle.words.proofs.Plainly.{then_at, plain_number, one_complete, two_complete}
 use Rattle.words.proofs.Writes.{numbers_read_back_lem, decimal_digits}
 use Rattle.answers.specs.declared.Said.{Said}
 use Rattle.answers.specs.declared.Said.TheVariants.{Ok, Number, Span}
@@ -20,14 +20,14 @@ use Rattle.answers.specs.Answers.{said_words, stamped, reply_words}
 use Rattle.answers.specs.Hears.{said_of, before_colon, time_of, from_machine, behind_time, from_time, reply_of, SaidFits, ReplyFits, ReadsBack}
 
 -- what is said
-two_back : (low high : ℕ) → low < 2 ^ 64 → high < 2 ^ 64 → two_of (decimal low ∷ decimal high ∷ []) ≡ Some (low, high)
-two_back low high h k =
-    then_at (number_of (decimal low)) (λ a. option_map (λ b. (a, b)) (number_of (decimal high))) low (numbers_read_back_lem low h) ∙ ap (option_map (λ b. (low, b))) (numbers_read_back_lem high k)
+decimal_plain : (n : ℕ) → n < 2 ^ 64 → plain (decimal n) ≡ decimal n
+decimal_plain n h = plain_number (decimal n) n (numbers_read_back_lem n h)
 
 said_back : (said : Said) → SaidFits said → said_of (said_words said) ≡ Some said
 said_back Ok h = refl
-said_back (Number n) h = ap (option_map Number) (numbers_read_back_lem n h)
-said_back (Span low high) h = ap (option_map (λ p. Span p.0 p.1)) (two_back low high h.0 h.1)
+said_back (Number n) h = ap (option_map Number) (one_complete (decimal n ∷ []) n h (ap (λ w. w ∷ []) (decimal_plain n h)))
+said_back (Span low high) h =
+    ap (option_map (λ p. Span p.0 p.1)) (two_complete (decimal low ∷ decimal high ∷ []) low high h.0 h.1 (λ i. decimal_plain low h.0 i ∷ decimal_plain high h.1 i ∷ []))
 
 -- the time
 before_colon_lem : (w : List ℕ) → before_colon (w ++ 58 ∷ []) ≡ Some w

@@ -1,4 +1,5 @@
 -- Requests to the program `rehearse`, written and read.
+use Rattle.std.specs.Prelude.{slice_index}
 use Rattle.std.proofs.Common.{◌≡◌, ℕ, ◌^◌, ◌<◌, false, List, [], ◌∷◌, map, length, Some, None, codes, decimal, sym, refl, ap, ◌∙◌, subst, arith, lit<}
 use Rattle.std.specs.Option.{option_map}
 use Rattle.std.specs.List.{AllByRecursion}
@@ -6,13 +7,13 @@ use Rattle.std.specs.Str.{bytes_eq}
 use Rattle.words.specs.Numbers.{number_of, plain, then, one_of}
 use Rattle.words.specs.Words.{joined, words_of}
 use Rattle.words.proofs.Good.{Good, good_key, good_decimal}
-use Rattle.words.proofs.Plainly.{then_some, then_at, number_fits, plain_number, number_plain, one_sound, key_plain, one_complete, two_complete, four_complete}
+use Rattle.words.proofs.Plainly.{then_some, then_at, number_fits, plain_number, number_plain, one_sound, one_complete, key_plain, numbers_complete}
 use Rattle.lines.specs.declared.Line.{Line}
 use Rattle.lines.specs.declared.scripts.ScriptRequest.{ScriptRequest}
 use Rattle.lines.specs.declared.scripts.ScriptRequest.TheVariants.{World, Pass, Fast, Slow, Ask, Answer, Honest, Span}
 use Rattle.lines.specs.Lines.{skipped, as_line}
 use Rattle.lines.specs.Scripts.{world_of, pass_of, way_of, clock_of, ask_of, answer_of, honest_of, span_of, script_request, script_words, ScriptFits, ScriptTold, ScriptsReadBack}
-use Rattle.lines.proofs.Tells.{Reads, pick, keyed, none, read_one, read_two, read_four, no_words, told_on, read_back}
+use Rattle.lines.proofs.Tells.{Reads, pick, keyed, none, read_numbers, no_words, told_on, read_back}
 
 abbrev ScriptReads : List (List ℕ) → ScriptRequest → Type 0
 ScriptReads ws q = Reads script_words ScriptFits ws q
@@ -43,19 +44,19 @@ sound : (ws : List (List ℕ)) (q : ScriptRequest) → script_request ws ≡ Som
 sound [] q e = none q e
 sound (k ∷ ws) q e =
     pick (bytes_eq k (codes "world")) (world_of ws) _ q (ScriptReads (k ∷ ws) q)
-    (λ t h. read_four script_words ScriptFits (λ p. World p.0 p.1 p.2 p.3) (codes "world") refl (λ p. refl) (λ p a b c d. (a, b, c, d)) k ws q (keyed k (codes "world") t) h)
+    (λ t h. read_numbers script_words ScriptFits 4 (λ ns. World (slice_index ns 0) (slice_index ns 1) (slice_index ns 2) (slice_index ns 3)) (codes "world") refl (λ ns. refl) (λ ns h. (h.0, h.1.0, h.1.1.0, h.1.1.1.0)) k ws q (keyed k (codes "world") t) h)
     (λ e. pick (bytes_eq k (codes "pass")) (pass_of ws) _ q (ScriptReads (k ∷ ws) q)
-    (λ t h. read_one script_words ScriptFits Pass (codes "pass") refl (λ a. refl) (λ a h. h) k ws q (keyed k (codes "pass") t) h)
+    (λ t h. read_numbers script_words ScriptFits 1 (λ ns. Pass (slice_index ns 0)) (codes "pass") refl (λ ns. refl) (λ ns h. h.0) k ws q (keyed k (codes "pass") t) h)
     (λ e. pick (bytes_eq k (codes "clock")) (clock_of ws) _ q (ScriptReads (k ∷ ws) q)
     (λ t h. subst (λ x. ScriptReads (x ∷ ws) q) (sym (keyed k (codes "clock") t)) (clock_sound ws q h))
     (λ e. pick (bytes_eq k (codes "ask")) (ask_of ws) _ q (ScriptReads (k ∷ ws) q)
-    (λ t h. read_two script_words ScriptFits (λ p. Ask p.0 p.1) (codes "ask") refl (λ p. refl) (λ p a b. (a, b)) k ws q (keyed k (codes "ask") t) h)
+    (λ t h. read_numbers script_words ScriptFits 2 (λ ns. Ask (slice_index ns 0) (slice_index ns 1)) (codes "ask") refl (λ ns. refl) (λ ns h. (h.0, h.1.0)) k ws q (keyed k (codes "ask") t) h)
     (λ e. pick (bytes_eq k (codes "answer")) (answer_of ws) _ q (ScriptReads (k ∷ ws) q)
-    (λ t h. read_four script_words ScriptFits (λ p. Answer p.0 p.1 p.2 p.3) (codes "answer") refl (λ p. refl) (λ p a b c d. (a, b, c, d)) k ws q (keyed k (codes "answer") t) h)
+    (λ t h. read_numbers script_words ScriptFits 4 (λ ns. Answer (slice_index ns 0) (slice_index ns 1) (slice_index ns 2) (slice_index ns 3)) (codes "answer") refl (λ ns. refl) (λ ns h. (h.0, h.1.0, h.1.1.0, h.1.1.1.0)) k ws q (keyed k (codes "answer") t) h)
     (λ e. pick (bytes_eq k (codes "honest")) (honest_of ws) _ q (ScriptReads (k ∷ ws) q)
-    (λ t h. read_four script_words ScriptFits (λ p. Honest p.0 p.1 p.2 p.3) (codes "honest") refl (λ p. refl) (λ p a b c d. (a, b, c, d)) k ws q (keyed k (codes "honest") t) h)
+    (λ t h. read_numbers script_words ScriptFits 4 (λ ns. Honest (slice_index ns 0) (slice_index ns 1) (slice_index ns 2) (slice_index ns 3)) (codes "honest") refl (λ ns. refl) (λ ns h. (h.0, h.1.0, h.1.1.0, h.1.1.1.0)) k ws q (keyed k (codes "honest") t) h)
     (λ e. pick (bytes_eq k (codes "span")) (span_of ws) None q (ScriptReads (k ∷ ws) q)
-    (λ t h. read_one script_words ScriptFits Span (codes "span") refl (λ a. refl) (λ a h. h) k ws q (keyed k (codes "span") t) h)
+    (λ t h. read_numbers script_words ScriptFits 1 (λ ns. Span (slice_index ns 0)) (codes "span") refl (λ ns. refl) (λ ns h. h.0) k ws q (keyed k (codes "span") t) h)
     (none q) e) e) e) e) e) e) e
 
 some : (q : ScriptRequest) → 0 < length (script_words q)
@@ -70,12 +71,12 @@ some (Slow a b) = lit< tt
 
 complete : (ws : List (List ℕ)) (q : ScriptRequest) → ScriptReads ws q → script_request ws ≡ Some q
 complete [] q h = no_words (script_words q) (some q) h.1
-complete (k ∷ ws) (World a b c d) h = ap (λ x. script_request (x ∷ ws)) (key_plain k (codes "world") refl (cc)) ∙ ap (option_map (λ p. World p.0 p.1 p.2 p.3)) (four_complete ws a b c d h.0.0 h.0.1 h.0.2 h.0.3 (cc))
-complete (k ∷ ws) (Pass a) h = ap (λ x. script_request (x ∷ ws)) (key_plain k (codes "pass") refl (cc)) ∙ ap (option_map Pass) (one_complete ws a h.0 (cc))
-complete (k ∷ ws) (Ask a b) h = ap (λ x. script_request (x ∷ ws)) (key_plain k (codes "ask") refl (cc)) ∙ ap (option_map (λ p. Ask p.0 p.1)) (two_complete ws a b h.0.0 h.0.1 (cc))
-complete (k ∷ ws) (Answer a b c d) h = ap (λ x. script_request (x ∷ ws)) (key_plain k (codes "answer") refl (cc)) ∙ ap (option_map (λ p. Answer p.0 p.1 p.2 p.3)) (four_complete ws a b c d h.0.0 h.0.1 h.0.2 h.0.3 (cc))
-complete (k ∷ ws) (Honest a b c d) h = ap (λ x. script_request (x ∷ ws)) (key_plain k (codes "honest") refl (cc)) ∙ ap (option_map (λ p. Honest p.0 p.1 p.2 p.3)) (four_complete ws a b c d h.0.0 h.0.1 h.0.2 h.0.3 (cc))
-complete (k ∷ ws) (Span a) h = ap (λ x. script_request (x ∷ ws)) (key_plain k (codes "span") refl (cc)) ∙ ap (option_map Span) (one_complete ws a h.0 (cc))
+complete (k ∷ ws) (World a b c d) h = ap (λ x. script_request (x ∷ ws)) (key_plain k (codes "world") refl (cc)) ∙ ap (option_map (λ ns. World (slice_index ns 0) (slice_index ns 1) (slice_index ns 2) (slice_index ns 3))) (numbers_complete ws (a ∷ b ∷ c ∷ d ∷ []) (h.0.0, (h.0.1, (h.0.2, (h.0.3, tt)))) (cc))
+complete (k ∷ ws) (Pass a) h = ap (λ x. script_request (x ∷ ws)) (key_plain k (codes "pass") refl (cc)) ∙ ap (option_map (λ ns. Pass (slice_index ns 0))) (numbers_complete ws (a ∷ []) (h.0, tt) (cc))
+complete (k ∷ ws) (Ask a b) h = ap (λ x. script_request (x ∷ ws)) (key_plain k (codes "ask") refl (cc)) ∙ ap (option_map (λ ns. Ask (slice_index ns 0) (slice_index ns 1))) (numbers_complete ws (a ∷ b ∷ []) (h.0.0, (h.0.1, tt)) (cc))
+complete (k ∷ ws) (Answer a b c d) h = ap (λ x. script_request (x ∷ ws)) (key_plain k (codes "answer") refl (cc)) ∙ ap (option_map (λ ns. Answer (slice_index ns 0) (slice_index ns 1) (slice_index ns 2) (slice_index ns 3))) (numbers_complete ws (a ∷ b ∷ c ∷ d ∷ []) (h.0.0, (h.0.1, (h.0.2, (h.0.3, tt)))) (cc))
+complete (k ∷ ws) (Honest a b c d) h = ap (λ x. script_request (x ∷ ws)) (key_plain k (codes "honest") refl (cc)) ∙ ap (option_map (λ ns. Honest (slice_index ns 0) (slice_index ns 1) (slice_index ns 2) (slice_index ns 3))) (numbers_complete ws (a ∷ b ∷ c ∷ d ∷ []) (h.0.0, (h.0.1, (h.0.2, (h.0.3, tt)))) (cc))
+complete (k ∷ ws) (Span a) h = ap (λ x. script_request (x ∷ ws)) (key_plain k (codes "span") refl (cc)) ∙ ap (option_map (λ ns. Span (slice_index ns 0))) (numbers_complete ws (a ∷ []) (h.0, tt) (cc))
 complete (k ∷ []) (Fast a b) h = absurd (let z : ◌≡◌ {A = ℕ} 0 1 = cc in omega arith)
 complete (k ∷ g ∷ []) (Fast a b) h = absurd (let z : ◌≡◌ {A = ℕ} 0 1 = cc in omega arith)
 complete (k ∷ g ∷ way ∷ ws) (Fast a b) h =

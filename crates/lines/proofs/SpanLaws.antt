@@ -1,17 +1,18 @@
 -- Requests to the program `span`, written and read.
+use Rattle.std.specs.Prelude.{slice_index}
 use Rattle.std.proofs.Common.{◌≡◌, ℕ, ◌<◌, false, List, [], ◌∷◌, length, Some, None, codes, refl, ap, ◌∙◌, lit<}
 use Rattle.std.specs.Option.{option_map}
 use Rattle.std.specs.List.{AllByRecursion}
 use Rattle.std.specs.Str.{bytes_eq}
 use Rattle.words.specs.Words.{joined, words_of}
 use Rattle.words.proofs.Good.{Good, good_key, good_decimal}
-use Rattle.words.proofs.Plainly.{key_plain, one_complete, two_complete, four_complete}
+use Rattle.words.proofs.Plainly.{key_plain, numbers_complete}
 use Rattle.lines.specs.declared.Line.{Line}
 use Rattle.lines.specs.declared.spans.SpanRequest.{SpanRequest}
 use Rattle.lines.specs.declared.spans.SpanRequest.TheVariants.{Asked, Answer, Now}
 use Rattle.lines.specs.Lines.{skipped, as_line}
 use Rattle.lines.specs.Spans.{asked_of, answer_of, now_of, span_request, span_words, SpanFits, SpanTold, SpansReadBack}
-use Rattle.lines.proofs.Tells.{Reads, pick, keyed, none, read_one, read_two, read_four, no_words, told_on, read_back}
+use Rattle.lines.proofs.Tells.{Reads, pick, keyed, none, read_numbers, no_words, told_on, read_back}
 
 abbrev SpanReads : List (List ℕ) → SpanRequest → Type 0
 SpanReads ws q = Reads span_words SpanFits ws q
@@ -20,11 +21,11 @@ sound : (ws : List (List ℕ)) (q : SpanRequest) → span_request ws ≡ Some q 
 sound [] q e = none q e
 sound (k ∷ ws) q e =
     pick (bytes_eq k (codes "asked")) (asked_of ws) _ q (SpanReads (k ∷ ws) q)
-    (λ t h. read_two span_words SpanFits (λ p. Asked p.0 p.1) (codes "asked") refl (λ p. refl) (λ p a b. (a, b)) k ws q (keyed k (codes "asked") t) h)
+    (λ t h. read_numbers span_words SpanFits 2 (λ ns. Asked (slice_index ns 0) (slice_index ns 1)) (codes "asked") refl (λ ns. refl) (λ ns h. (h.0, h.1.0)) k ws q (keyed k (codes "asked") t) h)
     (λ e. pick (bytes_eq k (codes "answer")) (answer_of ws) _ q (SpanReads (k ∷ ws) q)
-    (λ t h. read_four span_words SpanFits (λ p. Answer p.0 p.1 p.2 p.3) (codes "answer") refl (λ p. refl) (λ p a b c d. (a, b, c, d)) k ws q (keyed k (codes "answer") t) h)
+    (λ t h. read_numbers span_words SpanFits 4 (λ ns. Answer (slice_index ns 0) (slice_index ns 1) (slice_index ns 2) (slice_index ns 3)) (codes "answer") refl (λ ns. refl) (λ ns h. (h.0, h.1.0, h.1.1.0, h.1.1.1.0)) k ws q (keyed k (codes "answer") t) h)
     (λ e. pick (bytes_eq k (codes "now")) (now_of ws) None q (SpanReads (k ∷ ws) q)
-    (λ t h. read_one span_words SpanFits Now (codes "now") refl (λ a. refl) (λ a h. h) k ws q (keyed k (codes "now") t) h)
+    (λ t h. read_numbers span_words SpanFits 1 (λ ns. Now (slice_index ns 0)) (codes "now") refl (λ ns. refl) (λ ns h. h.0) k ws q (keyed k (codes "now") t) h)
     (none q) e) e) e
 
 some : (q : SpanRequest) → 0 < length (span_words q)
@@ -34,10 +35,10 @@ some (Now a) = lit< tt
 
 complete : (ws : List (List ℕ)) (q : SpanRequest) → SpanReads ws q → span_request ws ≡ Some q
 complete [] q h = no_words (span_words q) (some q) h.1
-complete (k ∷ ws) (Asked a b) h = ap (λ x. span_request (x ∷ ws)) (key_plain k (codes "asked") refl (cc)) ∙ ap (option_map (λ p. Asked p.0 p.1)) (two_complete ws a b h.0.0 h.0.1 (cc))
+complete (k ∷ ws) (Asked a b) h = ap (λ x. span_request (x ∷ ws)) (key_plain k (codes "asked") refl (cc)) ∙ ap (option_map (λ ns. Asked (slice_index ns 0) (slice_index ns 1))) (numbers_complete ws (a ∷ b ∷ []) (h.0.0, (h.0.1, tt)) (cc))
 complete (k ∷ ws) (Answer a b c d) h =
-    ap (λ x. span_request (x ∷ ws)) (key_plain k (codes "answer") refl (cc)) ∙ ap (option_map (λ p. Answer p.0 p.1 p.2 p.3)) (four_complete ws a b c d h.0.0 h.0.1 h.0.2 h.0.3 (cc))
-complete (k ∷ ws) (Now a) h = ap (λ x. span_request (x ∷ ws)) (key_plain k (codes "now") refl (cc)) ∙ ap (option_map Now) (one_complete ws a h.0 (cc))
+    ap (λ x. span_request (x ∷ ws)) (key_plain k (codes "answer") refl (cc)) ∙ ap (option_map (λ ns. Answer (slice_index ns 0) (slice_index ns 1) (slice_index ns 2) (slice_index ns 3))) (numbers_complete ws (a ∷ b ∷ c ∷ d ∷ []) (h.0.0, (h.0.1, (h.0.2, (h.0.3, tt)))) (cc))
+complete (k ∷ ws) (Now a) h = ap (λ x. span_request (x ∷ ws)) (key_plain k (codes "now") refl (cc)) ∙ ap (option_map (λ ns. Now (slice_index ns 0))) (numbers_complete ws (a ∷ []) (h.0, tt) (cc))
 
 pub span_told : (bs : List ℕ) (r : Line SpanRequest) → r ≡ as_line (span_request (words_of bs)) → skipped bs ≡ false → SpanTold bs r
 span_told = told_on span_words SpanFits span_request sound complete

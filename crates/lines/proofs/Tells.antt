@@ -1,15 +1,16 @@
 -- What holds of lines, whatever requests they are read as.
-use Rattle.std.proofs.Common.{◌≡◌, ℕ, ◌^◌, ◌<◌, Bool, true, false, cond, List, [], ◌∷◌, map, length, Some, None, decimal, Option, sym, refl, ap, ◌∙◌, subst, arith}
+use Rattle.std.specs.Prelude.{slice_index}
+use Rattle.std.proofs.Common.{◌≡◌, ℕ, zero, suc, ◌<◌, Bool, true, false, cond, List, [], ◌∷◌, map, length, Some, None, decimal, Option, sym, refl, ap, ◌∙◌, subst, arith}
 use Rattle.std.specs.Option.{option_map}
 use Rattle.std.specs.List.{AllByRecursion}
 use Rattle.std.specs.Str.{bytes_eq}
 use Rattle.std.proofs.lemmas.Slice.Eq.{bytes_eq-Decides}
 use Rattle.std.proofs.lemmas.Bool.{cond-false}
-use Rattle.words.specs.Numbers.{plain, one_of, two_of, four_of}
+use Rattle.words.specs.Numbers.{plain, numbers_of}
 use Rattle.words.specs.Words.{words_of, joined}
 use Rattle.words.proofs.Good.{Good, all_same, all_whole}
 use Rattle.words.proofs.Joins.{joined_words}
-use Rattle.words.proofs.Plainly.{mapped_some, one_sound, two_sound, four_sound}
+use Rattle.words.proofs.Plainly.{Fit, mapped_some, numbers_sound}
 use Rattle.lines.specs.declared.Line.{Line}
 use Rattle.lines.specs.declared.Line.TheVariants.{Nothing}
 use Rattle.lines.specs.Lines.{skipped, as_line, line_by, Told, ReadsBack}
@@ -29,29 +30,27 @@ none q e = absurd (let z : ◌≡◌ {A = ℕ} 0 1 = cc in omega arith)
 pub no_words : {P : Type 0} (ws : List (List ℕ)) → 0 < length ws → [] ≡ ws → P
 no_words ws some e = absurd (omega (arith, ap length e))
 
+-- the values at 0, 1 and so on, so many of them
+abbrev pub picked : ℕ → (ℕ → ℕ) → List ℕ
+picked zero at = []
+picked (suc n) at = at 0 ∷ picked n (λ k. at (suc k))
+
+picked_all : (ns : List ℕ) → picked (length ns) (slice_index ns) ≡ ns
+picked_all [] = refl
+picked_all (n ∷ ns) = ap (λ ms. n ∷ ms) (picked_all ns)
+
 module _ {R : Type 0} (written : R → List (List ℕ)) (Fits : R → Type 0) where
   -- words are those of a request
   abbrev pub Reads : List (List ℕ) → R → Type 0
   Reads ws q = Fits q × (map plain ws ≡ written q)
 
   -- a keyword and numbers are those of the request that they are read as
-  pub read_one : (make : ℕ → R) (key : List ℕ) → plain key ≡ key → ((a : ℕ) → written (make a) ≡ key ∷ decimal a ∷ []) → ((a : ℕ) → a < 2 ^ 64 → Fits (make a)) → (k : List ℕ) (ws : List (List ℕ)) (q : R) → k ≡ key → option_map make (one_of ws) ≡ Some q → Reads (k ∷ ws) q
-  read_one make key is words fits k ws q e h =
-      let m = mapped_some make (one_of ws) q h in
-      let o = one_sound ws m.0 m.1 in
-      subst (Reads (k ∷ ws)) m.2 (fits m.0 o.1, (λ i. (ap plain e ∙ is) i ∷ o.0 i) ∙ sym (words m.0))
-
-  pub read_two : (make : ℕ × ℕ → R) (key : List ℕ) → plain key ≡ key → ((p : ℕ × ℕ) → written (make p) ≡ key ∷ decimal p.0 ∷ decimal p.1 ∷ []) → ((p : ℕ × ℕ) → p.0 < 2 ^ 64 → p.1 < 2 ^ 64 → Fits (make p)) → (k : List ℕ) (ws : List (List ℕ)) (q : R) → k ≡ key → option_map make (two_of ws) ≡ Some q → Reads (k ∷ ws) q
-  read_two make key is words fits k ws q e h =
-      let m = mapped_some make (two_of ws) q h in
-      let o = two_sound ws m.0 m.1 in
-      subst (Reads (k ∷ ws)) m.2 (fits m.0 o.1 o.2, (λ i. (ap plain e ∙ is) i ∷ o.0 i) ∙ sym (words m.0))
-
-  pub read_four : (make : ℕ × ℕ × ℕ × ℕ → R) (key : List ℕ) → plain key ≡ key → ((p : ℕ × ℕ × ℕ × ℕ) → written (make p) ≡ key ∷ decimal p.0 ∷ decimal p.1 ∷ decimal p.2 ∷ decimal p.3 ∷ []) → ((p : ℕ × ℕ × ℕ × ℕ) → p.0 < 2 ^ 64 → p.1 < 2 ^ 64 → p.2 < 2 ^ 64 → p.3 < 2 ^ 64 → Fits (make p)) → (k : List ℕ) (ws : List (List ℕ)) (q : R) → k ≡ key → option_map make (four_of ws) ≡ Some q → Reads (k ∷ ws) q
-  read_four make key is words fits k ws q e h =
-      let m = mapped_some make (four_of ws) q h in
-      let o = four_sound ws m.0 m.1 in
-      subst (Reads (k ∷ ws)) m.2 (fits m.0 o.1 o.2 o.3 o.4, (λ i. (ap plain e ∙ is) i ∷ o.0 i) ∙ sym (words m.0))
+  pub read_numbers : (count : ℕ) (make : List ℕ → R) (key : List ℕ) → plain key ≡ key → ((ns : List ℕ) → written (make ns) ≡ key ∷ map decimal (picked count (slice_index ns))) → ((ns : List ℕ) → Fit (picked count (slice_index ns)) → Fits (make ns)) → (k : List ℕ) (ws : List (List ℕ)) (q : R) → k ≡ key → option_map make (numbers_of count ws) ≡ Some q → Reads (k ∷ ws) q
+  read_numbers count make key is words fits k ws q e h =
+      let m = mapped_some make (numbers_of count ws) q h in
+      let o = numbers_sound count ws m.0 m.1 in
+      let same : picked count (slice_index m.0) ≡ m.0 = ap (λ n. picked n (slice_index m.0)) (sym o.2) ∙ picked_all m.0 in
+      subst (Reads (k ∷ ws)) m.2 (fits m.0 (subst Fit (sym same) o.1), (λ i. (ap plain e ∙ is) i ∷ o.0 i) ∙ ap (λ ns. key ∷ map decimal ns) (sym same) ∙ sym (words m.0))
 
   -- what a line is, once reading and writing fit each other
   module _ (read : List (List ℕ) → Option R) (sound : (ws : List (List ℕ)) (q : R) → read ws ≡ Some q → Reads ws q) (complete : (ws : List (List ℕ)) (q : R) → Reads ws q → read ws ≡ Some q) where

@@ -1,19 +1,19 @@
 -- The lines of the program `rehearse`: a keyword, and behind it exactly so many numbers; `clock` has `fast` or `slow` between two.
-use Rattle.std.specs.Prelude.{ℕ, ◌^◌, ◌<◌, cond, List, [], ◌∷◌, Some, None, codes, decimal, Option}
+use Rattle.std.specs.Prelude.{ℕ, ◌^◌, ◌<◌, cond, List, [], ◌∷◌, Some, None, slice_index, codes, decimal, Option}
 use Rattle.std.specs.Option.{option_map}
 use Rattle.std.specs.Str.{bytes_eq}
 use Rattle.lines.specs.declared.Line.{Line}
 use Rattle.lines.specs.declared.scripts.ScriptRequest.{ScriptRequest}
 use Rattle.lines.specs.declared.scripts.ScriptRequest.TheVariants.{World, Pass, Fast, Slow, Ask, Answer, Honest, Span}
 use Rattle.lines.specs.Lines.{line_by, Told, ReadsBack}
-use Rattle.words.specs.Numbers.{number_of, then, one_of, two_of, four_of}
+use Rattle.words.specs.Numbers.{number_of, then, one_of, numbers_of}
 
 -- what the words behind each keyword are read as
 abbrev pub world_of : List (List ℕ) → Option ScriptRequest
-world_of ws = option_map (λ p. World p.0 p.1 p.2 p.3) (four_of ws)
+world_of ws = option_map (λ ns. World (slice_index ns 0) (slice_index ns 1) (slice_index ns 2) (slice_index ns 3)) (numbers_of 4 ws)
 
 abbrev pub pass_of : List (List ℕ) → Option ScriptRequest
-pass_of ws = option_map Pass (one_of ws)
+pass_of ws = option_map (λ ns. Pass (slice_index ns 0)) (numbers_of 1 ws)
 
 -- the way that a clock runs, for a machine and so many parts in a million
 abbrev pub way_of : List ℕ → ℕ → ℕ → Option ScriptRequest
@@ -25,16 +25,16 @@ clock_of (h ∷ []) = None
 clock_of (h ∷ way ∷ ws) = then (number_of h) (λ machine. then (one_of ws) (λ parts. way_of way machine parts))
 
 abbrev pub ask_of : List (List ℕ) → Option ScriptRequest
-ask_of ws = option_map (λ p. Ask p.0 p.1) (two_of ws)
+ask_of ws = option_map (λ ns. Ask (slice_index ns 0) (slice_index ns 1)) (numbers_of 2 ws)
 
 abbrev pub answer_of : List (List ℕ) → Option ScriptRequest
-answer_of ws = option_map (λ p. Answer p.0 p.1 p.2 p.3) (four_of ws)
+answer_of ws = option_map (λ ns. Answer (slice_index ns 0) (slice_index ns 1) (slice_index ns 2) (slice_index ns 3)) (numbers_of 4 ws)
 
 abbrev pub honest_of : List (List ℕ) → Option ScriptRequest
-honest_of ws = option_map (λ p. Honest p.0 p.1 p.2 p.3) (four_of ws)
+honest_of ws = option_map (λ ns. Honest (slice_index ns 0) (slice_index ns 1) (slice_index ns 2) (slice_index ns 3)) (numbers_of 4 ws)
 
 abbrev pub span_of : List (List ℕ) → Option ScriptRequest
-span_of ws = option_map Span (one_of ws)
+span_of ws = option_map (λ ns. Span (slice_index ns 0)) (numbers_of 1 ws)
 
 -- the request that words are, if they are one
 abbrev pub script_request : List (List ℕ) → Option ScriptRequest

@@ -1,22 +1,22 @@
 -- The lines of the program `span`: a keyword, and behind it exactly so many numbers.
-use Rattle.std.specs.Prelude.{ℕ, ◌^◌, ◌<◌, cond, List, [], ◌∷◌, None, codes, decimal, Option}
+use Rattle.std.specs.Prelude.{ℕ, ◌^◌, ◌<◌, cond, List, [], ◌∷◌, None, slice_index, codes, decimal, Option}
 use Rattle.std.specs.Option.{option_map}
 use Rattle.std.specs.Str.{bytes_eq}
 use Rattle.lines.specs.declared.Line.{Line}
 use Rattle.lines.specs.declared.spans.SpanRequest.{SpanRequest}
 use Rattle.lines.specs.declared.spans.SpanRequest.TheVariants.{Asked, Answer, Now}
 use Rattle.lines.specs.Lines.{line_by, Told, ReadsBack}
-use Rattle.words.specs.Numbers.{one_of, two_of, four_of}
+use Rattle.words.specs.Numbers.{numbers_of}
 
 -- what the words behind each keyword are read as
 abbrev pub asked_of : List (List ℕ) → Option SpanRequest
-asked_of ws = option_map (λ p. Asked p.0 p.1) (two_of ws)
+asked_of ws = option_map (λ ns. Asked (slice_index ns 0) (slice_index ns 1)) (numbers_of 2 ws)
 
 abbrev pub answer_of : List (List ℕ) → Option SpanRequest
-answer_of ws = option_map (λ p. Answer p.0 p.1 p.2 p.3) (four_of ws)
+answer_of ws = option_map (λ ns. Answer (slice_index ns 0) (slice_index ns 1) (slice_index ns 2) (slice_index ns 3)) (numbers_of 4 ws)
 
 abbrev pub now_of : List (List ℕ) → Option SpanRequest
-now_of ws = option_map Now (one_of ws)
+now_of ws = option_map (λ ns. Now (slice_index ns 0)) (numbers_of 1 ws)
 
 -- the request that words are, if they are one
 abbrev pub span_request : List (List ℕ) → Option SpanRequest

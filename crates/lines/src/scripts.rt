@@ -2,10 +2,10 @@
 ghost use Rattle.std.specs.Prelude.{◌≡◌, false};
 ghost use Rattle.lines.specs.Lines.{as_line, skipped};
 ghost use Rattle.lines.specs.Scripts.{ScriptTold, ScriptsReadBack, answer_of, ask_of, clock_of, honest_of, pass_of, script_line, script_request, span_of, way_of, world_of};
-ghost use Rattle.words.specs.Words.{left, words_of};
+ghost use Rattle.words.specs.Words.{words_of};
 
 use super::{Line, is, passed_over};
-use words::{first_word, four_numbers, next_number, one_number, two_numbers};
+use words::Words;
 
 /// A request to the program that plays a script.
 #[derive(Clone, Copy, Drop)]
@@ -48,10 +48,10 @@ pub enum ScriptRequest {
     },
 }
 
-fn world(rest: Option<&[u8]>) -> Option<ScriptRequest>
-    ensures { result ≡ world_of (left rest.entry) }
+fn world(words: Words<'_>) -> Option<ScriptRequest>
+    ensures { result ≡ world_of words.entry }
 {
-    let (machines, servers, faulty, rate) = four_numbers(rest)?;
+    let [machines, servers, faulty, rate] = words.numbers::<4>()?;
     Some(ScriptRequest::World {
         machines,
         servers,
@@ -60,10 +60,10 @@ fn world(rest: Option<&[u8]>) -> Option<ScriptRequest>
     })
 }
 
-fn pass(rest: Option<&[u8]>) -> Option<ScriptRequest>
-    ensures { result ≡ pass_of (left rest.entry) }
+fn pass(words: Words<'_>) -> Option<ScriptRequest>
+    ensures { result ≡ pass_of words.entry }
 {
-    let by = one_number(rest)?;
+    let [by] = words.numbers::<1>()?;
     Some(ScriptRequest::Pass { by })
 }
 
@@ -79,26 +79,26 @@ fn way_of(way: &[u8], machine: u64, parts: u64) -> Option<ScriptRequest>
     }
 }
 
-fn clock(rest: Option<&[u8]>) -> Option<ScriptRequest>
-    ensures { result ≡ clock_of (left rest.entry) }
+fn clock(mut words: Words<'_>) -> Option<ScriptRequest>
+    ensures { result ≡ clock_of words.entry }
 {
-    let (machine, rest) = next_number(rest)?;
-    let (way, rest) = first_word(rest?);
-    let parts = one_number(rest)?;
+    let machine = words.next_number()?;
+    let way = words.next()?;
+    let [parts] = words.numbers::<1>()?;
     way_of(way, machine, parts)
 }
 
-fn ask(rest: Option<&[u8]>) -> Option<ScriptRequest>
-    ensures { result ≡ ask_of (left rest.entry) }
+fn ask(words: Words<'_>) -> Option<ScriptRequest>
+    ensures { result ≡ ask_of words.entry }
 {
-    let (machine, server) = two_numbers(rest)?;
+    let [machine, server] = words.numbers::<2>()?;
     Some(ScriptRequest::Ask { machine, server })
 }
 
-fn answer(rest: Option<&[u8]>) -> Option<ScriptRequest>
-    ensures { result ≡ answer_of (left rest.entry) }
+fn answer(words: Words<'_>) -> Option<ScriptRequest>
+    ensures { result ≡ answer_of words.entry }
 {
-    let (machine, server, low, high) = four_numbers(rest)?;
+    let [machine, server, low, high] = words.numbers::<4>()?;
     Some(ScriptRequest::Answer {
         machine,
         server,
@@ -107,10 +107,10 @@ fn answer(rest: Option<&[u8]>) -> Option<ScriptRequest>
     })
 }
 
-fn honest(rest: Option<&[u8]>) -> Option<ScriptRequest>
-    ensures { result ≡ honest_of (left rest.entry) }
+fn honest(words: Words<'_>) -> Option<ScriptRequest>
+    ensures { result ≡ honest_of words.entry }
 {
-    let (machine, server, less, more) = four_numbers(rest)?;
+    let [machine, server, less, more] = words.numbers::<4>()?;
     Some(ScriptRequest::Honest {
         machine,
         server,
@@ -119,31 +119,32 @@ fn honest(rest: Option<&[u8]>) -> Option<ScriptRequest>
     })
 }
 
-fn span(rest: Option<&[u8]>) -> Option<ScriptRequest>
-    ensures { result ≡ span_of (left rest.entry) }
+fn span(words: Words<'_>) -> Option<ScriptRequest>
+    ensures { result ≡ span_of words.entry }
 {
-    let machine = one_number(rest)?;
+    let [machine] = words.numbers::<1>()?;
     Some(ScriptRequest::Span { machine })
 }
 
 fn script_request(line: &[u8]) -> Option<ScriptRequest>
     ensures { result ≡ script_request (words_of line.now) }
 {
-    let (keyword, rest) = first_word(line);
+    let mut words = Words::of(line);
+    let keyword = words.next()?;
     if is(keyword, b"world") {
-        world(rest)
+        world(words)
     } else if is(keyword, b"pass") {
-        pass(rest)
+        pass(words)
     } else if is(keyword, b"clock") {
-        clock(rest)
+        clock(words)
     } else if is(keyword, b"ask") {
-        ask(rest)
+        ask(words)
     } else if is(keyword, b"answer") {
-        answer(rest)
+        answer(words)
     } else if is(keyword, b"honest") {
-        honest(rest)
+        honest(words)
     } else if is(keyword, b"span") {
-        span(rest)
+        span(words)
     } else {
         None
     }

@@ -2,10 +2,10 @@
 ghost use Rattle.std.specs.Prelude.{◌≡◌, false};
 ghost use Rattle.lines.specs.Lines.{as_line, skipped};
 ghost use Rattle.lines.specs.Spans.{SpanTold, SpansReadBack, answer_of, asked_of, now_of, span_line, span_request};
-ghost use Rattle.words.specs.Words.{left, words_of};
+ghost use Rattle.words.specs.Words.{words_of};
 
 use super::{Line, is, passed_over};
-use words::{first_word, four_numbers, one_number, two_numbers};
+use words::Words;
 
 /// A request to the program that works out the span of one machine.
 #[derive(Clone, Copy, Drop)]
@@ -25,17 +25,17 @@ pub enum SpanRequest {
     },
 }
 
-fn asked(rest: Option<&[u8]>) -> Option<SpanRequest>
-    ensures { result ≡ asked_of (left rest.entry) }
+fn asked(words: Words<'_>) -> Option<SpanRequest>
+    ensures { result ≡ asked_of words.entry }
 {
-    let (server, clock) = two_numbers(rest)?;
+    let [server, clock] = words.numbers::<2>()?;
     Some(SpanRequest::Asked { server, clock })
 }
 
-fn answer(rest: Option<&[u8]>) -> Option<SpanRequest>
-    ensures { result ≡ answer_of (left rest.entry) }
+fn answer(words: Words<'_>) -> Option<SpanRequest>
+    ensures { result ≡ answer_of words.entry }
 {
-    let (server, clock, low, high) = four_numbers(rest)?;
+    let [server, clock, low, high] = words.numbers::<4>()?;
     Some(SpanRequest::Answer {
         server,
         clock,
@@ -44,23 +44,24 @@ fn answer(rest: Option<&[u8]>) -> Option<SpanRequest>
     })
 }
 
-fn now_shown(rest: Option<&[u8]>) -> Option<SpanRequest>
-    ensures { result ≡ now_of (left rest.entry) }
+fn now_shown(words: Words<'_>) -> Option<SpanRequest>
+    ensures { result ≡ now_of words.entry }
 {
-    let clock = one_number(rest)?;
+    let [clock] = words.numbers::<1>()?;
     Some(SpanRequest::Now { clock })
 }
 
 fn span_request(line: &[u8]) -> Option<SpanRequest>
     ensures { result ≡ span_request (words_of line.now) }
 {
-    let (keyword, rest) = first_word(line);
+    let mut words = Words::of(line);
+    let keyword = words.next()?;
     if is(keyword, b"asked") {
-        asked(rest)
+        asked(words)
     } else if is(keyword, b"answer") {
-        answer(rest)
+        answer(words)
     } else if is(keyword, b"now") {
-        now_shown(rest)
+        now_shown(words)
     } else {
         None
     }

@@ -1,36 +1,34 @@
--- A line is cut at its first space.
-use Rattle.std.proofs.Common.{◌≡◌, ℕ, zero, suc, ◌-◌, ◌<◌, eqb, List, [], ◌∷◌, length, get_or, take, drop, refl, ap, ◌∙◌, arith}
+-- A line is cut at its spaces, byte by byte.
+use Rattle.std.proofs.Common.{◌≡◌, ℕ, ◌+◌, ◌-◌, ◌<◌, ◌≤◌, Bool, true, false, cond, eqb, ltb, List, [], ◌∷◌, length, take, drop, Some, None, Option, sym, refl, ap, ◌∙◌, arith}
+use Rattle.std.specs.List.{onto_first, position_or_len}
+use Rattle.std.proofs.lemmas.List.Splits.{slice_split-cons_no, slice_split_first, slice_split_none}
+use Rattle.std.proofs.lemmas.Bool.{ne_eqb, ltb-true, ltb-false}
 use Rattle.std.proofs.lemmas.List.{take_rest}
-use Rattle.std.proofs.lemmas.Bool.{eq-eqb, ne_eqb, cond-true, cond-false}
-use Rattle.words.specs.Words.{words_of, onto, behind}
+use Rattle.std.proofs.lemmas.List.Sums.{fails_before_first}
+use Rattle.words.specs.Words.{words_of}
 
--- none of the first n bytes is a space
-abbrev pub Clear : List ℕ → ℕ → Type 0
-Clear xs n = (k : ℕ) → k < n → get_or xs k 0 ≡ 32 → ⊥
+pub words_byte : (x : ℕ) (xs : List ℕ) → (x ≡ 32 → ⊥) → words_of (x ∷ xs) ≡ onto_first x (words_of xs)
+words_byte x xs e = slice_split-cons_no (λ b. eqb b 32) x xs (ne_eqb x 32 e)
 
-words_space : (x : ℕ) (xs : List ℕ) → x ≡ 32 → words_of (x ∷ xs) ≡ [] ∷ words_of xs
-words_space x xs e = cond-true (eqb x 32) ([] ∷ words_of xs) (onto x (words_of xs)) (eq-eqb x 32 e)
+abbrev space : ℕ → Bool
+space b = eqb b 32
 
-pub words_byte : (x : ℕ) (xs : List ℕ) → (x ≡ 32 → ⊥) → words_of (x ∷ xs) ≡ onto x (words_of xs)
-words_byte x xs e = cond-false (eqb x 32) ([] ∷ words_of xs) (onto x (words_of xs)) (ne_eqb x 32 e)
+-- what `position` says of where the first space stands
+abbrev pub first_space : List ℕ → Option ℕ
+first_space xs = cond (ltb (position_or_len space xs) (length xs)) (Some (position_or_len space xs)) None
 
-fewer : (x : ℕ) (xs : List ℕ) (n : ℕ) → Clear (x ∷ xs) (suc n) → Clear xs n
-fewer x xs n none k h = none (suc k) (omega arith)
+pub cut_at : (xs : List ℕ) (n : ℕ) → Some n ≡ first_space xs → words_of xs ≡ take n xs ∷ words_of (take (length xs - (n + 1)) (drop (n + 1) xs))
+cut_at xs n e =
+    let p = by (ltb (position_or_len space xs) (length xs)) refl e in
+    slice_split_first space xs 0 p.0 ∙ ap (λ k. take k xs ∷ words_of (drop (k + 1) xs)) (sym p.1) ∙ ap (λ ys. take n xs ∷ words_of ys) (sym (take_rest xs (n + 1)))
+  where
+    by : (t : Bool) → ltb (position_or_len space xs) (length xs) ≡ t → Some n ≡ cond t (Some (position_or_len space xs)) None → (position_or_len space xs < length xs) × (n ≡ position_or_len space xs)
+    by true is e = (ltb-true (position_or_len space xs) (length xs) is, cc)
+    by false is e = absurd (let z : ◌≡◌ {A = ℕ} 0 1 = cc in omega arith)
 
--- what `word_len` says of a line
-abbrev CutAt : List ℕ → ℕ → Type 0
-CutAt xs n = words_of xs ≡ take n xs ∷ behind (drop n xs)
-
-pub cut_here : (xs : List ℕ) (n : ℕ) → Clear xs n → n < length xs → get_or xs n 0 ≡ 32 → CutAt xs n
-cut_here [] n none h e = absurd (omega arith)
-cut_here (x ∷ xs) zero none h e = words_space x xs e
-cut_here (x ∷ xs) (suc n) none h e = words_byte x xs (none 0 (omega arith)) ∙ ap (onto x) (cut_here xs n (fewer x xs n none) (omega arith) e)
-
-pub cut_none : (xs : List ℕ) → Clear xs (length xs) → CutAt xs (length xs)
-cut_none [] none = refl
-cut_none (x ∷ xs) none = words_byte x xs (none 0 (omega arith)) ∙ ap (onto x) (cut_none xs (fewer x xs (length xs) none))
-
--- a rest without its first byte, as a slice pattern reads it
-pub behind_rest : (xs : List ℕ) → 0 < length xs → words_of (take (length xs - 1) (drop 1 xs)) ≡ behind xs
-behind_rest [] h = absurd (omega arith)
-behind_rest (x ∷ xs) h = ap words_of (take_rest (x ∷ xs) 1)
+pub cut_none : (xs : List ℕ) → None ≡ first_space xs → words_of xs ≡ xs ∷ []
+cut_none xs e = slice_split_none space xs (λ k d h. fails_before_first space xs k d (omega (arith, by (ltb (position_or_len space xs) (length xs)) refl e)))
+  where
+    by : (t : Bool) → ltb (position_or_len space xs) (length xs) ≡ t → None ≡ cond t (Some (position_or_len space xs)) None → length xs ≤ position_or_len space xs
+    by true is e = absurd (let z : ◌≡◌ {A = ℕ} 0 1 = cc in omega arith)
+    by false is e = ltb-false (position_or_len space xs) (length xs) is

@@ -1,10 +1,13 @@
 -- Words up to zeros in front: what is read as numbers is, without them, those numbers' digits, and the other way round.
-use Rattle.std.proofs.Common.{◌≡◌, ℕ, ◌^◌, ◌<◌, Bool, true, false, cond, ◌&&◌, ltb, List, [], ◌∷◌, map, length, Some, None, decimal, Option, sym, refl, ap, ◌∙◌, subst, arith}
+use Rattle.std.specs.Prelude.{slice_index}
+use Rattle.std.proofs.Common.{◌≡◌, ℕ, ◌^◌, ◌<◌, Bool, true, false, cond, ◌&&◌, eqb, ltb, List, [], ◌∷◌, map, length, Some, None, decimal, Option, sym, refl, ap, ◌∙◌, subst, arith}
 use Rattle.std.specs.Option.{option_map}
+use Rattle.std.specs.List.{AllByRecursion}
 use Rattle.std.specs.Str.{all_ascii_digits}
+use Rattle.std.proofs.lemmas.List.{length-map}
 use Rattle.std.proofs.lemmas.Fmt.{decimal_injective}
-use Rattle.std.proofs.lemmas.Bool.{and_parts, ltb-true}
-use Rattle.words.specs.Numbers.{value_from, is_number, number_of, plain, plain_by, then, one_of, two_of, three_of, four_of}
+use Rattle.std.proofs.lemmas.Bool.{and_parts, cond-true, eq-eqb, eqb-true, ltb-true}
+use Rattle.words.specs.Numbers.{value_from, is_number, number_of, plain, plain_by, then, all_numbers, numbers_of, one_of, two_of}
 use Rattle.words.proofs.Writes.{numbers_read_back_lem}
 
 pub then_some : {X Y : Type 0} (o : Option X) (f : X → Option Y) (y : Y) → then o f ≡ Some y → (x : X) × (o ≡ Some x) × (f x ≡ Some y)
@@ -51,61 +54,50 @@ pub key_plain : (w key : List ℕ) → number_of key ≡ None → plain w ≡ ke
 key_plain w key none e = key_by w key (number_of w) refl none e
 
 -- one number after another
-pub one_sound : (ws : List (List ℕ)) (a : ℕ) → one_of ws ≡ Some a → (map plain ws ≡ decimal a ∷ []) × (a < 2 ^ 64)
-one_sound [] a e = absurd (let z : ◌≡◌ {A = ℕ} 0 1 = cc in omega arith)
-one_sound (w ∷ []) a e = (ap (λ x. x ∷ []) (plain_number w a e), number_fits w a e)
-one_sound (w ∷ v ∷ ws) a e = absurd (let z : ◌≡◌ {A = ℕ} 0 1 = cc in omega arith)
+abbrev pub Fit : List ℕ → Type 0
+Fit ns = AllByRecursion (λ n. n < 2 ^ 64) ns
 
-abbrev TwoPlain : List (List ℕ) → ℕ × ℕ → Type 0
-TwoPlain ws p = (map plain ws ≡ decimal p.0 ∷ decimal p.1 ∷ []) × (p.0 < 2 ^ 64) × (p.1 < 2 ^ 64)
-
-pub two_sound : (ws : List (List ℕ)) (p : ℕ × ℕ) → two_of ws ≡ Some p → TwoPlain ws p
-two_sound [] p e = absurd (let z : ◌≡◌ {A = ℕ} 0 1 = cc in omega arith)
-two_sound (w ∷ ws) p e =
-    let s = then_some (number_of w) (λ a. option_map (λ b. (a, b)) (one_of ws)) p e in
-    let m = mapped_some (λ b. (s.0, b)) (one_of ws) p s.2 in
-    let o = one_sound ws m.0 m.1 in
-    subst (TwoPlain (w ∷ ws)) m.2 ((λ i. plain_number w s.0 s.1 i ∷ o.0 i), number_fits w s.0 s.1, o.1)
-
-abbrev ThreePlain : List (List ℕ) → ℕ × ℕ × ℕ → Type 0
-ThreePlain ws p = (map plain ws ≡ decimal p.0 ∷ decimal p.1 ∷ decimal p.2 ∷ []) × (p.0 < 2 ^ 64) × (p.1 < 2 ^ 64) × (p.2 < 2 ^ 64)
-
-pub three_sound : (ws : List (List ℕ)) (p : ℕ × ℕ × ℕ) → three_of ws ≡ Some p → ThreePlain ws p
-three_sound [] p e = absurd (let z : ◌≡◌ {A = ℕ} 0 1 = cc in omega arith)
-three_sound (w ∷ ws) p e =
-    let s = then_some (number_of w) (λ a. option_map (λ q. (a, q.0, q.1)) (two_of ws)) p e in
-    let m = mapped_some (λ q. (s.0, q.0, q.1)) (two_of ws) p s.2 in
-    let o = two_sound ws m.0 m.1 in
-    subst (ThreePlain (w ∷ ws)) m.2 ((λ i. plain_number w s.0 s.1 i ∷ o.0 i), number_fits w s.0 s.1, o.1, o.2)
-
-abbrev FourPlain : List (List ℕ) → ℕ × ℕ × ℕ × ℕ → Type 0
-FourPlain ws p = (map plain ws ≡ decimal p.0 ∷ decimal p.1 ∷ decimal p.2 ∷ decimal p.3 ∷ []) × (p.0 < 2 ^ 64) × (p.1 < 2 ^ 64) × (p.2 < 2 ^ 64) × (p.3 < 2 ^ 64)
-
-pub four_sound : (ws : List (List ℕ)) (p : ℕ × ℕ × ℕ × ℕ) → four_of ws ≡ Some p → FourPlain ws p
-four_sound [] p e = absurd (let z : ◌≡◌ {A = ℕ} 0 1 = cc in omega arith)
-four_sound (w ∷ ws) p e =
-    let s = then_some (number_of w) (λ a. option_map (λ q. (a, q.0, q.1, q.2)) (three_of ws)) p e in
-    let m = mapped_some (λ q. (s.0, q.0, q.1, q.2)) (three_of ws) p s.2 in
-    let o = three_sound ws m.0 m.1 in
-    subst (FourPlain (w ∷ ws)) m.2 ((λ i. plain_number w s.0 s.1 i ∷ o.0 i), number_fits w s.0 s.1, o.1, o.2, o.3)
+-- words that are numbers are plainly those numbers' digits
+pub all_sound : (ws : List (List ℕ)) (ns : List ℕ) → all_numbers ws ≡ Some ns → (map plain ws ≡ map decimal ns) × Fit ns
+all_sound [] [] e = (refl, tt)
+all_sound [] (n ∷ ns) e = absurd (let z : ◌≡◌ {A = ℕ} 0 1 = cc in omega arith)
+all_sound (w ∷ ws) ns e =
+    let s = then_some (number_of w) (λ a. option_map (λ ks. a ∷ ks) (all_numbers ws)) ns e in
+    let m = mapped_some (λ ks. s.0 ∷ ks) (all_numbers ws) ns s.2 in
+    let o = all_sound ws m.0 m.1 in
+    subst (λ k. (map plain (w ∷ ws) ≡ map decimal k) × Fit k) m.2 ((λ i. plain_number w s.0 s.1 i ∷ o.0 i), (number_fits w s.0 s.1, o.1))
 
 -- and the other way round
+pub all_complete : (ws : List (List ℕ)) (ns : List ℕ) → Fit ns → map plain ws ≡ map decimal ns → all_numbers ws ≡ Some ns
+all_complete [] [] h e = refl
+all_complete [] (n ∷ ns) h e = absurd (let z : ◌≡◌ {A = ℕ} 0 1 = cc in omega arith)
+all_complete (w ∷ ws) [] h e = absurd (let z : ◌≡◌ {A = ℕ} 0 1 = cc in omega arith)
+all_complete (w ∷ ws) (n ∷ ns) h e =
+    then_at (number_of w) (λ x. option_map (λ ks. x ∷ ks) (all_numbers ws)) n (number_plain w n h.0 (cc)) ∙ ap (option_map (λ ks. n ∷ ks)) (all_complete ws ns h.1 (cc))
+
+-- the same of exactly so many numbers
+pub numbers_sound : (count : ℕ) (ws : List (List ℕ)) (ns : List ℕ) → numbers_of count ws ≡ Some ns → (map plain ws ≡ map decimal ns) × Fit ns × (length ns ≡ count)
+numbers_sound count ws ns e = by (eqb (length ws) count) refl e
+  where
+    by : (t : Bool) → eqb (length ws) count ≡ t → cond t (all_numbers ws) None ≡ Some ns → (map plain ws ≡ map decimal ns) × Fit ns × (length ns ≡ count)
+    by true is e = let a = all_sound ws ns e in (a.0, a.1, omega (arith, eqb-true (length ws) count is, ap length a.0, length-map ws plain, length-map ns decimal))
+    by false is e = absurd (let z : ◌≡◌ {A = ℕ} 0 1 = cc in omega arith)
+
+pub numbers_complete : (ws : List (List ℕ)) (ns : List ℕ) → Fit ns → map plain ws ≡ map decimal ns → numbers_of (length ns) ws ≡ Some ns
+numbers_complete ws ns h e =
+    let same : length ws ≡ length ns = omega (arith, ap length e, length-map ws plain, length-map ns decimal) in
+    cond-true (eqb (length ws) (length ns)) (all_numbers ws) None (eq-eqb (length ws) (length ns) same) ∙ all_complete ws ns h e
+
+pub one_sound : (ws : List (List ℕ)) (a : ℕ) → one_of ws ≡ Some a → (map plain ws ≡ decimal a ∷ []) × (a < 2 ^ 64)
+one_sound ws a e = let m = mapped_some (λ ns. slice_index ns 0) (numbers_of 1 ws) a e in by m.0 (numbers_sound 1 ws m.0 m.1) m.2
+  where
+    by : (ns : List ℕ) → (map plain ws ≡ map decimal ns) × Fit ns × (length ns ≡ 1) → slice_index ns 0 ≡ a → (map plain ws ≡ decimal a ∷ []) × (a < 2 ^ 64)
+    by [] h e = absurd (omega (arith, h.2))
+    by (n ∷ []) h e = (h.0 ∙ ap (λ k. decimal k ∷ []) e, omega (arith, h.1.0, e))
+    by (n ∷ k ∷ ns) h e = absurd (omega (arith, h.2))
+
 pub one_complete : (ws : List (List ℕ)) (a : ℕ) → a < 2 ^ 64 → map plain ws ≡ decimal a ∷ [] → one_of ws ≡ Some a
-one_complete [] a h e = absurd (let z : ◌≡◌ {A = ℕ} 0 1 = cc in omega arith)
-one_complete (w ∷ []) a h e = number_plain w a h (cc)
-one_complete (w ∷ v ∷ ws) a h e = absurd (let z : ◌≡◌ {A = ℕ} 0 1 = cc in omega arith)
+one_complete ws a h e = ap (option_map (λ ns. slice_index ns 0)) (numbers_complete ws (a ∷ []) (h, tt) e)
 
 pub two_complete : (ws : List (List ℕ)) (a b : ℕ) → a < 2 ^ 64 → b < 2 ^ 64 → map plain ws ≡ decimal a ∷ decimal b ∷ [] → two_of ws ≡ Some (a, b)
-two_complete [] a b h k e = absurd (let z : ◌≡◌ {A = ℕ} 0 1 = cc in omega arith)
-two_complete (w ∷ ws) a b h k e =
-    then_at (number_of w) (λ x. option_map (λ y. (x, y)) (one_of ws)) a (number_plain w a h (cc)) ∙ ap (option_map (λ y. (a, y))) (one_complete ws b k (cc))
-
-pub three_complete : (ws : List (List ℕ)) (a b c : ℕ) → a < 2 ^ 64 → b < 2 ^ 64 → c < 2 ^ 64 → map plain ws ≡ decimal a ∷ decimal b ∷ decimal c ∷ [] → three_of ws ≡ Some (a, b, c)
-three_complete [] a b c h k l e = absurd (let z : ◌≡◌ {A = ℕ} 0 1 = cc in omega arith)
-three_complete (w ∷ ws) a b c h k l e =
-    then_at (number_of w) (λ x. option_map (λ q. (x, q.0, q.1)) (two_of ws)) a (number_plain w a h (cc)) ∙ ap (option_map (λ q. (a, q.0, q.1))) (two_complete ws b c k l (cc))
-
-pub four_complete : (ws : List (List ℕ)) (a b c d : ℕ) → a < 2 ^ 64 → b < 2 ^ 64 → c < 2 ^ 64 → d < 2 ^ 64 → map plain ws ≡ decimal a ∷ decimal b ∷ decimal c ∷ decimal d ∷ [] → four_of ws ≡ Some (a, b, c, d)
-four_complete [] a b c d h k l m e = absurd (let z : ◌≡◌ {A = ℕ} 0 1 = cc in omega arith)
-four_complete (w ∷ ws) a b c d h k l m e =
-    then_at (number_of w) (λ x. option_map (λ q. (x, q.0, q.1, q.2)) (three_of ws)) a (number_plain w a h (cc)) ∙ ap (option_map (λ q. (a, q.0, q.1, q.2))) (three_complete ws b c d k l m (cc))
+two_complete ws a b h k e = ap (option_map (λ ns. (slice_index ns 0, slice_index ns 1))) (numbers_complete ws (a ∷ b ∷ []) (h, (k, tt)) e)

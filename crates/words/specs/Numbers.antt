@@ -1,5 +1,5 @@
 -- Numbers as words.
-use Rattle.std.specs.Prelude.{ℕ, ◌+◌, ◌-◌, ◌*◌, ◌^◌, Bool, cond, ◌&&◌, List, [], ◌∷◌, length, Some, None, decimal, Option, nat_lt}
+use Rattle.std.specs.Prelude.{◌≡◌, ℕ, ◌+◌, ◌-◌, ◌*◌, ◌^◌, Bool, cond, ◌&&◌, List, [], ◌∷◌, length, Some, None, decimal, Option, nat_lt, slice_index, ◌==◌}
 use Rattle.std.specs.Option.{option_map}
 use Rattle.std.specs.Str.{all_ascii_digits}
 
@@ -16,37 +16,31 @@ is_number w = nat_lt 0 (length w) && (all_ascii_digits w && nat_lt (value_from 0
 abbrev pub number_of : List ℕ → Option ℕ
 number_of w = cond (is_number w) (Some (value_from 0 w)) None
 
--- the same of what is left of a word behind digits of the value n, which may be nothing
-abbrev pub read_from : ℕ → List ℕ → Option ℕ
-read_from n w = cond (all_ascii_digits w && nat_lt (value_from n w) (2 ^ 64)) (Some (value_from n w)) None
-
--- the first of the words as a number, and the words behind it
-abbrev pub next_of : List (List ℕ) → Option (ℕ × List (List ℕ))
-next_of [] = None
-next_of (w ∷ ws) = option_map (λ n. (n, ws)) (number_of w)
+-- the first of the words is read, and the result is the number that it is; without a word there is no number
+abbrev pub NextNumber : List (List ℕ) → List (List ℕ) → Option ℕ → Type 0
+NextNumber [] after result = (after ≡ []) × (result ≡ None)
+NextNumber (w ∷ ws) after result = (after ≡ ws) × (result ≡ number_of w)
 
 -- a reading that goes on from another
 abbrev pub then : {X Y : Type 0} → Option X → (X → Option Y) → Option Y
 then None f = None
 then (Some x) f = f x
 
--- words that are exactly one number, two, three, four
+-- the numbers that words are, if each of them is one
+abbrev pub all_numbers : List (List ℕ) → Option (List ℕ)
+all_numbers [] = Some []
+all_numbers (w ∷ ws) = then (number_of w) (λ n. option_map (λ ns. n ∷ ns) (all_numbers ws))
+
+-- words that are exactly so many numbers
+abbrev pub numbers_of : ℕ → List (List ℕ) → Option (List ℕ)
+numbers_of count ws = cond (length ws == count) (all_numbers ws) None
+
+-- words that are exactly one number, or two
 abbrev pub one_of : List (List ℕ) → Option ℕ
-one_of [] = None
-one_of (w ∷ []) = number_of w
-one_of (w ∷ v ∷ ws) = None
+one_of ws = option_map (λ ns. slice_index ns 0) (numbers_of 1 ws)
 
 abbrev pub two_of : List (List ℕ) → Option (ℕ × ℕ)
-two_of [] = None
-two_of (w ∷ ws) = then (number_of w) (λ a. option_map (λ b. (a, b)) (one_of ws))
-
-abbrev pub three_of : List (List ℕ) → Option (ℕ × ℕ × ℕ)
-three_of [] = None
-three_of (w ∷ ws) = then (number_of w) (λ a. option_map (λ p. (a, p.0, p.1)) (two_of ws))
-
-abbrev pub four_of : List (List ℕ) → Option (ℕ × ℕ × ℕ × ℕ)
-four_of [] = None
-four_of (w ∷ ws) = then (number_of w) (λ a. option_map (λ p. (a, p.0, p.1, p.2)) (three_of ws))
+two_of ws = option_map (λ ns. (slice_index ns 0, slice_index ns 1)) (numbers_of 2 ws)
 
 -- a word without the zeros in front where it is a number, and as it is where it is none; `decimal n` is what `{n}` writes of a number
 abbrev pub plain_by : List ℕ → Option ℕ → List ℕ
