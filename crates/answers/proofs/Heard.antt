@@ -26,8 +26,9 @@ decimal_plain n h = plain_number (decimal n) n (numbers_read_back_lem n h)
 said_back : (said : Said) → SaidFits said → said_of (said_words said) ≡ Some said
 said_back Ok h = refl
 said_back (Number n) h = ap (option_map Number) (one_complete (decimal n ∷ []) n h (ap (λ w. w ∷ []) (decimal_plain n h)))
-said_back (Span low high) h =
-    ap (option_map (λ p. Span p.0 p.1)) (two_complete (decimal low ∷ decimal high ∷ []) low high h.0 h.1 (λ i. decimal_plain low h.0 i ∷ decimal_plain high h.1 i ∷ []))
+said_back (Span s) h =
+    ap (option_map (λ p. Span (record { low = p.0; high = p.1 })))
+    (two_complete (decimal s.low ∷ decimal s.high ∷ []) s.low s.high h.0 h.1 (λ i. decimal_plain s.low h.0 i ∷ decimal_plain s.high h.1 i ∷ []))
 
 -- the time
 before_colon_lem : (w : List ℕ) → before_colon (w ++ 58 ∷ []) ≡ Some w
@@ -42,12 +43,12 @@ time_back time h = then_at (before_colon (stamped time)) number_of (decimal time
 plain_back : (said : Said) → reply_of (said_words said) ≡ option_map Plain (said_of (said_words said))
 plain_back Ok = refl
 plain_back (Number n) = refl
-plain_back (Span low high) = refl
+plain_back (Span s) = refl
 
 world_back : (time : ℕ) (said : Said) → behind_time time (said_words said) ≡ option_map (World time) (said_of (said_words said))
 world_back time Ok = refl
 world_back time (Number n) = refl
-world_back time (Span low high) = refl
+world_back time (Span s) = refl
 
 reply_back : (reply : Reply) → ReplyFits reply → reply_of (reply_words reply) ≡ Some reply
 reply_back (Plain said) h = plain_back said ∙ ap (option_map Plain) (said_back said h)
@@ -89,7 +90,7 @@ clear_stamped time h = All-append (λ b. (b ≡ 32 → ⊥) × (b ≡ 10 → ⊥
 clear_said : (said : Said) → SaidFits said → AllByRecursion Clear (said_words said)
 clear_said Ok h = (clear_letters (codes "ok") refl, tt)
 clear_said (Number n) h = (clear_letters (codes "number") refl, (clear_decimal n h, tt))
-clear_said (Span low high) h = (clear_letters (codes "span") refl, (clear_decimal low h.0, (clear_decimal high h.1, tt)))
+clear_said (Span s) h = (clear_letters (codes "span") refl, (clear_decimal s.low h.0, (clear_decimal s.high h.1, tt)))
 
 clear_reply : (reply : Reply) → ReplyFits reply → AllByRecursion Clear (reply_words reply)
 clear_reply (Plain said) h = clear_said said h
@@ -122,7 +123,7 @@ joined_line (w ∷ ws) h = All-append (λ b. b ≡ 10 → ⊥) w (spaced ws) (on
 some_said : (said : Said) → 0 < length (said_words said)
 some_said Ok = lit< tt
 some_said (Number n) = lit< tt
-some_said (Span low high) = lit< tt
+some_said (Span s) = lit< tt
 
 some : (reply : Reply) → 0 < length (reply_words reply)
 some (Plain said) = some_said said

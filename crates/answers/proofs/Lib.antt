@@ -1,2 +1,1 @@
-pub mod Grows
 pub mod Heard

@@ -1,5 +1,5 @@
 -- What is answered, as words and as the bytes of a line.
-use Rattle.std.specs.Prelude.{◌≡◌, ℕ, List, [], ◌∷◌, ◌++◌, length, take, IfOk, codes, decimal, Result}
+use Rattle.std.specs.Prelude.{ℕ, List, [], ◌∷◌, ◌++◌, codes, decimal}
 use Rattle.answers.specs.declared.Said.{Said}
 use Rattle.answers.specs.declared.Said.TheVariants.{Ok, Number, Span}
 use Rattle.answers.specs.declared.Reply.{Reply}
@@ -10,7 +10,7 @@ use Rattle.words.specs.Words.{joined}
 abbrev pub said_words : Said → List (List ℕ)
 said_words Ok = codes "ok" ∷ []
 said_words (Number n) = codes "number" ∷ decimal n ∷ []
-said_words (Span low high) = codes "span" ∷ decimal low ∷ decimal high ∷ []
+said_words (Span s) = codes "span" ∷ decimal s.low ∷ decimal s.high ∷ []
 
 -- a time with a colon (58) behind it
 abbrev pub stamped : ℕ → List ℕ
@@ -24,8 +24,3 @@ reply_words (Machine time machine said) = stamped time ∷ decimal machine ∷ s
 -- the bytes of an answer's line, with the newline (10) that ends it
 abbrev pub spoken : Reply → List ℕ
 spoken reply = joined (reply_words reply) ++ 10 ∷ []
-
--- What a call that appends leaves on the way: `more` behind what was there, or at a want of memory anything behind it.
-pub record Grew {E : Type 0} (was more : List ℕ) (r : Result (Unit {0}) E) (is : List ℕ) : Type 0 where
-  pub wrote : IfOk r (λ _. is ≡ was ++ more)
-  pub kept : take (length was) is ≡ was

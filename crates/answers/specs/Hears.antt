@@ -21,7 +21,7 @@ said_of [] = None
 said_of (k ∷ ws) =
     cond (bytes_eq k (codes "ok")) (ok_of ws)
     (cond (bytes_eq k (codes "number")) (option_map Number (one_of ws))
-    (cond (bytes_eq k (codes "span")) (option_map (λ p. Span p.0 p.1) (two_of ws)) None))
+    (cond (bytes_eq k (codes "span")) (option_map (λ p. Span (record { low = p.0; high = p.1 })) (two_of ws)) None))
 
 -- a word that ends with a colon (58), without it
 abbrev pub before_colon : List ℕ → Option (List ℕ)
@@ -54,7 +54,7 @@ reply_of (w ∷ ws) = from_time (time_of w) w ws
 abbrev pub SaidFits : Said → Type 0
 SaidFits Ok = Unit {0}
 SaidFits (Number n) = n < 2 ^ 64
-SaidFits (Span low high) = (low < 2 ^ 64) × (high < 2 ^ 64)
+SaidFits (Span s) = (s.low < 2 ^ 64) × (s.high < 2 ^ 64)
 
 abbrev pub ReplyFits : Reply → Type 0
 ReplyFits (Plain said) = SaidFits said

@@ -6,184 +6,78 @@
 //! Every call appends exactly the bytes that the definitions in `specs/` say, or leaves `out` as it was where memory is wanting, and
 //! asks nothing of its caller. Each answer is one line, and its words read back as the answer that they were written from.
 //!
-//! The parts of a line are appended one after another; where memory runs out in the middle, what was appended is taken back.
+//! What is written of an answer is its `Display`. The text is made first and appended whole.
 #![tactic(auto)]
 
-ghost use Rattle.std.specs.Prelude.{◌≡◌, ◌+◌, ◌<◌, [], ◌∷◌, ◌++◌, take, is_ok, if◌then◌else◌, Some, codes, decimal};
-ghost use Rattle.answers.specs.Answers.{Grew, reply_words, said_words, spoken, stamped};
+ghost use Rattle.std.specs.Prelude.{◌≡◌, ◌++◌, is_ok, if◌then◌else◌, IfSome, Some, decimal};
+ghost use Rattle.answers.specs.Answers.{reply_words, said_words, spoken};
 ghost use Rattle.answers.specs.Hears.{ReadsBack};
 ghost use Rattle.words.specs.Numbers.{number_of};
-ghost use Rattle.words.specs.Words.{joined, spaced};
+ghost use Rattle.words.specs.Words.{joined};
 
+use clocks::growth::Span;
 use std::alloc::AllocError;
+use std::fmt;
 
 /// What is said in answer to a request.
-#[derive(Clone, Copy, Drop)]
+#[derive(Clone, Copy, PartialEq, Eq, Debug)]
 pub enum Said {
     Ok,
     Number(u64),
-    Span { low: u64, high: u64 },
+    Span(Span),
 }
 
 /// An answer: what is said alone, or behind a true time, or behind a true time and a machine's number.
-#[derive(Clone, Copy, Drop)]
+#[derive(Clone, Copy, PartialEq, Eq, Debug)]
 pub enum Reply {
     Plain { said: Said },
     World { time: u64, said: Said },
     Machine { time: u64, machine: u64, said: Said },
 }
 
-// Appends bytes.
-fn put(out: &mut Vec<u8>, part: &[u8]) -> Result<(), AllocError>
-    ensures { Grew out.old.items part.now result out.new.items }
-{
-    out.extend_from_slice(part)
-}
+impl fmt::Display for Said {
+    ghost output = { λ said. Some (joined (said_words said)) };
 
-// Appends a digit.
-fn put_digit(out: &mut Vec<u8>, d: u64) -> Result<(), AllocError>
-    requires { d < 10 }
-    ensures { Grew out.old.items ((48 + d) ∷ []) result out.new.items }
-{
-    put(out, &[b'0' + d as u8])
-}
-
-// Appends the digits of `n`, the last one last.
-fn put_digits(out: &mut Vec<u8>, n: u64) -> Result<(), AllocError>
-    ensures grew { Grew out.old.items (decimal n) result out.new.items }
-    ensures reads { number_of (decimal n) ≡ Some n }
-{
-    if n < 10 {
-        return put_digit(out, n);
-    }
-    put_digits(out, n / 10)?;
-    put_digit(out, n % 10)
-}
-
-// Appends a space and the digits of `n`.
-fn put_next(out: &mut Vec<u8>, n: u64) -> Result<(), AllocError>
-    ensures { Grew out.old.items (32 ∷ decimal n) result out.new.items }
-{
-    put(out, b" ")?;
-    put_digits(out, n)
-}
-
-// Appends `n` and `m`, each behind a space.
-fn put_two(out: &mut Vec<u8>, n: u64, m: u64) -> Result<(), AllocError>
-    ensures { Grew out.old.items (spaced (decimal n ∷ decimal m ∷ [])) result out.new.items }
-{
-    put_next(out, n)?;
-    put_next(out, m)
-}
-
-// Appends the words of a refusal.
-fn put_refusal(out: &mut Vec<u8>, n: u64) -> Result<(), AllocError>
-    ensures { Grew out.old.items (joined (codes "number" ∷ decimal n ∷ [])) result out.new.items }
-{
-    put(out, b"number")?;
-    put_next(out, n)
-}
-
-// Appends the words of a span.
-fn put_span(out: &mut Vec<u8>, low: u64, high: u64) -> Result<(), AllocError>
-    ensures { Grew out.old.items (joined (codes "span" ∷ decimal low ∷ decimal high ∷ [])) result out.new.items }
-{
-    put(out, b"span")?;
-    put_two(out, low, high)
-}
-
-fn put_said(out: &mut Vec<u8>, said: Said) -> Result<(), AllocError>
-    ensures { Grew out.old.items (joined (said_words said)) result out.new.items }
-{
-    match said {
-        Said::Ok => put(out, b"ok"),
-        Said::Number(n) => put_refusal(out, n),
-        Said::Span { low, high } => put_span(out, low, high),
+    fn fmt<W: fmt::Write>(&self, f: &mut fmt::Formatter<W>) -> fmt::Result {
+        match *self {
+            Said::Ok => write!(f, "ok"),
+            Said::Number(n) => write!(f, "number {n}"),
+            Said::Span(Span { low, high }) => write!(f, "span {low} {high}"),
+        }
     }
 }
 
-// Appends a space and what is said.
-fn put_behind(out: &mut Vec<u8>, said: Said) -> Result<(), AllocError>
-    ensures { Grew out.old.items (spaced (said_words said)) result out.new.items }
-{
-    put(out, b" ")?;
-    put_said(out, said)
-}
+impl fmt::Display for Reply {
+    ghost output = { λ reply. Some (joined (reply_words reply)) };
 
-// Appends a time and the colon behind it.
-fn put_time(out: &mut Vec<u8>, time: u64) -> Result<(), AllocError>
-    ensures { Grew out.old.items (stamped time) result out.new.items }
-{
-    put_digits(out, time)?;
-    put(out, b":")
-}
-
-fn put_machine(out: &mut Vec<u8>, machine: u64, said: Said) -> Result<(), AllocError>
-    ensures { Grew out.old.items (spaced (decimal machine ∷ said_words said)) result out.new.items }
-{
-    put_next(out, machine)?;
-    put_behind(out, said)
-}
-
-fn put_at(out: &mut Vec<u8>, time: u64, said: Said) -> Result<(), AllocError>
-    ensures { Grew out.old.items (joined (stamped time ∷ said_words said)) result out.new.items }
-{
-    put_time(out, time)?;
-    put_behind(out, said)
-}
-
-fn put_of(out: &mut Vec<u8>, time: u64, machine: u64, said: Said) -> Result<(), AllocError>
-    ensures { Grew out.old.items (joined (stamped time ∷ decimal machine ∷ said_words said)) result out.new.items }
-{
-    put_time(out, time)?;
-    put_machine(out, machine, said)
-}
-
-fn put_words(out: &mut Vec<u8>, reply: Reply) -> Result<(), AllocError>
-    ensures { Grew out.old.items (joined (reply_words reply)) result out.new.items }
-{
-    match reply {
-        Reply::Plain { said } => put_said(out, said),
-        Reply::World { time, said } => put_at(out, time, said),
-        Reply::Machine {
-            time,
-            machine,
-            said,
-        } => put_of(out, time, machine, said),
+    fn fmt<W: fmt::Write>(&self, f: &mut fmt::Formatter<W>) -> fmt::Result {
+        match *self {
+            Reply::Plain { said } => write!(f, "{said}"),
+            Reply::World { time, said } => write!(f, "{time}: {said}"),
+            Reply::Machine {
+                time,
+                machine,
+                said,
+            } => write!(f, "{time}: {machine} {said}"),
+        }
     }
 }
 
-fn put_line(out: &mut Vec<u8>, reply: Reply) -> Result<(), AllocError>
-    ensures grew { Grew out.old.items (spoken reply) result out.new.items }
-    ensures reads { ReadsBack reply }
+// Appends what `{}` writes of a value. The text is made first, since no contract says what a `write!` that fails leaves in `out`.
+fn put<D: fmt::Display + Drop>(out: &mut Vec<u8>, value: D) -> Result<(), AllocError>
+    ensures { IfSome (D.output value) (λ text. out.new.items ≡ (if is_ok result then out.old.items ++ text else out.old.items)) }
 {
-    put_words(out, reply)?;
-    put(out, b"\n")
-}
-
-// Takes back what was written behind the first `before` bytes, where not all of it was.
-fn or_as_before(
-    out: &mut Vec<u8>,
-    before: usize,
-    written: Result<(), AllocError>,
-) -> Result<(), AllocError>
-    ensures value { result ≡ written }
-    ensures items { out.new.items ≡ (if is_ok written then out.old.items else take before out.old.items) }
-{
-    if written.is_err() {
-        out.truncate(before);
-    }
-    written
+    let text = value.to_string(*out.allocator())?;
+    out.extend_from_slice(text.as_bytes())
 }
 
 /// Appends a number in decimal, with no zeros in front. Where memory is wanting, `out` is as it was.
+#[tactic(auto, using(words::proofs::Writes::numbers_read_back_lem))]
 pub fn put_number(out: &mut Vec<u8>, n: u64) -> Result<(), AllocError>
     ensures items { out.new.items ≡ (if is_ok result then out.old.items ++ decimal n else out.old.items) }
     ensures reads { number_of (decimal n) ≡ Some n }
 {
-    let before = out.len();
-    let written = put_digits(out, n);
-    or_as_before(out, before, written)
+    put(out, n)
 }
 
 /// Appends a word. Where memory is wanting, `out` is as it was.
@@ -194,13 +88,12 @@ pub fn put_word(out: &mut Vec<u8>, word: &[u8]) -> Result<(), AllocError>
 }
 
 /// Appends the line of an answer, with the newline that ends it. Where memory is wanting, `out` is as it was.
+#[tactic(auto, using(crate::proofs::Heard::reads_back))]
 pub fn put_reply(out: &mut Vec<u8>, reply: Reply) -> Result<(), AllocError>
     ensures items { out.new.items ≡ (if is_ok result then out.old.items ++ spoken reply else out.old.items) }
     ensures reads { ReadsBack reply }
 {
-    let before = out.len();
-    let written = put_line(out, reply);
-    or_as_before(out, before, written)
+    put(out, format_args!("{reply}\n"))
 }
 
 #[cfg(test)]
@@ -219,10 +112,10 @@ mod tests {
                 said: Said::Number(1),
             },
         )?;
-        let said = Said::Span {
+        let said = Said::Span(Span {
             low: 4997,
             high: 18446744073709551615,
-        };
+        });
         put_reply(
             &mut out,
             Reply::Machine {

@@ -30,7 +30,7 @@ abbrev pub said_of : Reply → Said
 said_of reply.Passed = said.Ok
 said_of (reply.Asked n) = said.Ok
 said_of reply.Taken = said.Ok
-said_of (reply.Span s) = said.Span s.low s.high
+said_of (reply.Span s) = said.Span s
 
 -- the world's answer, and a machine's, whose number stands before it unless it was refused
 abbrev pub world_says : ℕ → Result Reply Refusal → Answer

@@ -33,10 +33,7 @@ fn said(reply: actions::Reply) -> Said
     ensures { result ≡ said_of reply }
 {
     match reply {
-        actions::Reply::Span(span) => Said::Span {
-            low: span.low,
-            high: span.high,
-        },
+        actions::Reply::Span(span) => Said::Span(span),
         actions::Reply::Passed | actions::Reply::Asked(_) | actions::Reply::Taken => Said::Ok,
     }
 }

@@ -23,7 +23,7 @@ taken (Ok x) = said.Ok
 taken (Err e) = said.Number (number_of e)
 
 abbrev pub spanned : Result Span Refusal → Said
-spanned (Ok s) = said.Span s.low s.high
+spanned (Ok s) = said.Span s
 spanned (Err e) = said.Number (number_of e)
 
 abbrev span : ℕ → ℕ → Span

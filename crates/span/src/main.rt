@@ -51,11 +51,10 @@ fn respond(votes: &mut Votes, request: SpanRequest) -> Said
     ensures said { result ≡ said_of votes.old request }
     ensures after { votes.new ≡ after_of votes.old request }
 {
-    match request {
-        SpanRequest::Asked { server, clock } => match votes.ask(server as usize, clock) {
-            Ok(_) => Said::Ok,
-            Err(refusal) => refused(refusal),
-        },
+    let said = match request {
+        SpanRequest::Asked { server, clock } => {
+            votes.ask(server as usize, clock).map(|_number| Said::Ok)
+        }
         SpanRequest::Answer {
             server,
             clock,
@@ -63,16 +62,13 @@ fn respond(votes: &mut Votes, request: SpanRequest) -> Said
             high,
         } => {
             let number = votes.last_ask(server as usize).unwrap_or(0);
-            match votes.answer(server as usize, number, Span { low, high }, clock) {
-                Ok(()) => Said::Ok,
-                Err(refusal) => refused(refusal),
-            }
+            votes
+                .answer(server as usize, number, Span { low, high }, clock)
+                .map(|()| Said::Ok)
         }
-        SpanRequest::Now { clock } => match votes.span(clock) {
-            Ok(Span { low, high }) => Said::Span { low, high },
-            Err(refusal) => refused(refusal),
-        },
-    }
+        SpanRequest::Now { clock } => votes.span(clock).map(Said::Span),
+    };
+    said.unwrap_or_else(refused)
 }
 
 #[derive(Drop)]

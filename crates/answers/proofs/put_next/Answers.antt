@@ -1,6 +1,0 @@
-use Rattle.std.proofs.Common.{vec_items, refl}
-use Rattle.answers.proofs.Grows.{then_grew}
-use Rattle.answers.proofs.put_next.Goals as goal
-
-pub returns : goal.returns
-returns c = then_grew (vec_items c.args.out.now) _ (vec_items c.put.new.out) _ _ (vec_items c.put_digits.new.out) refl c.in_ok-put.ensures.wrote c.put_digits.ensures.grew
