@@ -23,6 +23,7 @@ use std::fmt;
 #[derive(Clone, Copy, PartialEq, Eq, Debug)]
 pub enum Said {
     Ok,
+    // any number: a line can hold each, and refusals are enums of the crates that refuse
     Number(u64),
     Span(Span),
 }
@@ -33,6 +34,15 @@ pub enum Reply {
     Plain { said: Said },
     World { time: u64, said: Said },
     Machine { time: u64, machine: u64, said: Said },
+}
+
+impl Said {
+    /// What a refusal of this number is answered by.
+    pub fn refused(number: u8) -> Said
+        ensures { result ≡ Said.Number number }
+    {
+        Said::Number(u64::from(number))
+    }
 }
 
 impl fmt::Display for Said {

@@ -1,16 +1,21 @@
-//! What the programs share: lines in, answers out.
+//! What the programs share: arguments and lines in, answers out.
 //!
 //! A program answers one line at a time. Its answers are written before anything more is read, so that whoever waits for an answer
 //! gets it; while whole lines are at hand already, they are answered together.
 //!
-//! No contract can say what is read or written, so nothing is promised here but that it is safe and ends; the programs' runs on stored
-//! input show the rest.
+//! No contract here says what is read or written: the programs' runs on stored input show that. The contracts say what a line is without
+//! its newline, that arguments which ask for help are not handed on, and which status a program ends with.
 #![tactic(auto)]
 
-use anyhow::anyhow;
+ghost use Rattle.std.specs.Prelude.{◌≡◌, ◌↔◌, IsTrue, IfOk, IfSome, is_ok, if◌then◌else◌};
+ghost use Rattle.std.specs.Io.BufRead.{strip_last};
+ghost use Rattle.console.specs.Arguments.{AsksForHelp};
+
+use anyhow::Context;
 use std::alloc::{AllocError, Global};
-use std::io;
+use std::env;
 use std::io::{BufRead, BufReader, Read, Write};
+use std::process::ExitCode;
 
 /// A program that answers lines.
 pub trait Program {
@@ -18,17 +23,29 @@ pub trait Program {
     fn answer(&mut self, line: &[u8], out: &mut Vec<u8>) -> Result<(), AllocError>;
 }
 
-/// A line without the newline that ends it, if one does.
-fn trimmed(line: &[u8]) -> &[u8] {
-    match line {
-        [text @ .., b'\n'] => text,
-        _ => line,
-    }
+fn asks_for_help(args: &[String]) -> bool
+    ensures { IsTrue result ↔ AsksForHelp args.now }
+{
+    args.first().is_some_and(|word| word.as_str() == "--help")
 }
 
-// What went wrong, with the system's own words behind it.
-fn wrong(what: &str, error: io::Error) -> anyhow::Error {
-    anyhow!("{what}: {error}")
+/// The arguments of a program. If they ask for help, it is given, by printing `usage`, and there is nothing left to do.
+pub fn arguments(rt: &HostRuntime, usage: &str) -> anyhow::Result<Option<Vec<String>>>
+    ensures { IfOk result (λ left. IfSome left (λ args. ¬ (AsksForHelp args.items))) }
+{
+    let args: Vec<String> = env::args(rt)?.skip(1).collect(rt.alloc())?;
+    if asks_for_help(&args) {
+        println!(rt; "{usage}")?;
+        return Ok(None);
+    }
+    Ok(Some(args))
+}
+
+// A line without the newline that ends it, if one does.
+fn trimmed(line: &[u8]) -> &[u8]
+    ensures { result.now ≡ strip_last 10 line.now }
+{
+    line.strip_suffix(b"\n").unwrap_or(line)
 }
 
 /// Answers the lines of an input, to its end.
@@ -44,28 +61,35 @@ pub fn serve<R: Read + Drop, W: Write, P: Program>(
     // a bound that no input reaches, since every loop has to end
     for _ in 0..u64::MAX {
         line.clear();
-        match input.read_until(b'\n', &mut line) {
-            Ok(0) => break,
-            Ok(_) => {}
-            Err(error) => return Err(wrong("the input cannot be read", error)),
+        let read = input
+            .read_until(b'\n', &mut line)
+            .context("the input cannot be read")?;
+        if read == 0 {
+            break;
         }
         program.answer(trimmed(line.as_slice()), &mut out)?;
         if !input.buffer().contains(&b'\n') {
-            if let Err(error) = output.write_all(out.as_slice()) {
-                return Err(wrong("the answers cannot be written", error));
-            }
+            output
+                .write_all(out.as_slice())
+                .context("the answers cannot be written")?;
             out.clear();
         }
     }
     Ok(())
 }
 
-/// Says what went wrong, if anything did, in one sentence on standard error, and hands it on.
-pub fn report(rt: &HostRuntime, program: &str, ended: anyhow::Result<()>) -> anyhow::Result<()> {
-    if let Err(wrong) = &ended {
-        eprintln!(rt; "{program}: {wrong}")?;
+/// The status that a program ends with. What went wrong, if anything did, is said first, in one sentence on standard error.
+pub fn report(rt: &HostRuntime, program: &str, ended: anyhow::Result<()>) -> ExitCode
+    ensures { result ≡ (if is_ok ended then ExitCode.SUCCESS else ExitCode.FAILURE) }
+{
+    match ended {
+        Ok(()) => ExitCode::SUCCESS,
+        Err(wrong) => {
+            // where nobody takes what is said, the status still tells
+            let _ = eprintln!(rt; "{program}: {wrong:#}");
+            ExitCode::FAILURE
+        }
     }
-    ended
 }
 
 #[cfg(test)]

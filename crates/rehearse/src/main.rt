@@ -5,10 +5,9 @@
 #![tactic(auto)]
 
 use answers::put_reply;
-use anyhow::anyhow;
-use console::{Program, report, serve};
+use anyhow::ensure;
+use console::{Program, arguments, report, serve};
 use std::alloc::AllocError;
-use std::env;
 use std::process::ExitCode;
 
 mod rehearsal;
@@ -50,22 +49,15 @@ impl Program for Script {
 }
 
 fn run(rt: &HostRuntime) -> anyhow::Result<()> {
-    let mut args = env::args(rt)?.skip(1);
-    if let Some(word) = args.next() {
-        if word.as_str() == "--help" {
-            println!(rt; "{USAGE}")?;
-            return Ok(());
-        }
-        return Err(anyhow!(MISUSED));
-    }
+    let Some(args) = arguments(rt, USAGE)? else {
+        return Ok(());
+    };
+    ensure!(args.is_empty(), MISUSED);
     let mut script = Script::new(rt.alloc());
     serve(rt.alloc(), rt.stdin(), &mut rt.stdout(), &mut script)
 }
 
 // `report` has said what went wrong, so `main` returns the status alone: a returned error would be printed a second time.
 fn main(rt: HostRuntime) -> ExitCode {
-    match report(&rt, "rehearse", run(&rt)) {
-        Ok(()) => ExitCode::SUCCESS,
-        Err(_) => ExitCode::FAILURE,
-    }
+    report(&rt, "rehearse", run(&rt))
 }

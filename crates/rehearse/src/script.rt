@@ -25,7 +25,7 @@ type Outcome = Result<actions::Reply, Refusal>;
 fn refused(refusal: Refusal) -> Said
     ensures { result ≡ refused_as refusal }
 {
-    Said::Number(u64::from(refusal.number()))
+    Said::refused(refusal.number())
 }
 
 // What is said where nothing was refused: a span, or that it was done.
@@ -170,7 +170,7 @@ impl Script {
             }
             Err(why) => Reply::World {
                 time: self.time(),
-                said: Said::Number(u64::from(why.number())),
+                said: Said::refused(why.number()),
             },
         }
     }

@@ -5,17 +5,16 @@
 #![tactic(auto)]
 
 ghost use Rattle.std.specs.Prelude.{◌≡◌, true, false, MatchOption};
-ghost use Rattle.votes.specs.Exchanges.{number_of, opened, valid_setup};
+ghost use Rattle.votes.specs.Exchanges.{opened, valid_setup};
 ghost use Rattle.lines.specs.Spans.{span_line};
 ghost use Rattle.span.specs.Respond.{setup_of, said_of, after_of, heard, heard_after};
 
 use answers::{Reply, Said, put_reply};
-use anyhow::anyhow;
+use anyhow::Context;
 use clocks::growth::Span;
-use console::{Program, report, serve};
+use console::{Program, arguments, report, serve};
 use lines::{Line, SpanRequest, span_line};
 use std::alloc::AllocError;
-use std::env;
 use std::process::ExitCode;
 use votes::types::{Refusal, Setup, Votes};
 use words::number;
@@ -39,13 +38,6 @@ answers ok, ok and span 5059 5112.";
 const MISUSED: &str =
     "expected three numbers M F RATE, M from 1 to 16, 2F below M and RATE at most 1000; see span --help";
 
-// What a refusal is answered by.
-fn refused(refusal: Refusal) -> Said
-    ensures { result ≡ Said.Number (number_of refusal) }
-{
-    Said::Number(u64::from(refusal.number()))
-}
-
 // Which call a request makes, and what is said of its answer.
 fn respond(votes: &mut Votes, request: SpanRequest) -> Said
     ensures said { result ≡ said_of votes.old request }
@@ -68,7 +60,7 @@ fn respond(votes: &mut Votes, request: SpanRequest) -> Said
         }
         SpanRequest::Now { clock } => votes.span(clock).map(Said::Span),
     };
-    said.unwrap_or_else(refused)
+    said.unwrap_or_else(|refusal| Said::refused(refusal.number()))
 }
 
 #[derive(Drop)]
@@ -84,7 +76,7 @@ fn hear(votes: &mut Votes, line: &[u8]) -> Option<Said>
     match span_line(line) {
         Line::Nothing => None,
         Line::Request(request) => Some(respond(votes, request)),
-        Line::Unreadable => Some(refused(Refusal::Invalid)),
+        Line::Unreadable => Some(Said::refused(Refusal::Invalid.number())),
     }
 }
 
@@ -110,44 +102,27 @@ fn made(servers: u64, faulty: u64, rate: u64) -> Option<Machine>
     Some(Machine { votes })
 }
 
-// One argument as a number.
-fn argument(text: Option<String>) -> Option<u64> {
-    number(text?.as_bytes())
-}
-
 // The machine that the arguments ask for, if they are three numbers in range.
-fn asked_for(
-    servers: Option<String>,
-    faulty: Option<String>,
-    rate: Option<String>,
-    more: Option<String>,
-) -> Option<Machine> {
-    if more.is_some() {
+fn asked_for(args: &[String]) -> Option<Machine> {
+    let [servers, faulty, rate] = args else {
         return None;
-    }
-    made(argument(servers)?, argument(faulty)?, argument(rate)?)
+    };
+    made(
+        number(servers.as_bytes())?,
+        number(faulty.as_bytes())?,
+        number(rate.as_bytes())?,
+    )
 }
 
 fn run(rt: &HostRuntime) -> anyhow::Result<()> {
-    let mut args = env::args(rt)?.skip(1);
-    let first = args.next();
-    if let Some(word) = &first {
-        if word.as_str() == "--help" {
-            println!(rt; "{USAGE}")?;
-            return Ok(());
-        }
-    }
-    let Some(machine) = asked_for(first, args.next(), args.next(), args.next()) else {
-        return Err(anyhow!(MISUSED));
+    let Some(args) = arguments(rt, USAGE)? else {
+        return Ok(());
     };
-    let mut machine = machine;
+    let mut machine = asked_for(&args).context(MISUSED)?;
     serve(rt.alloc(), rt.stdin(), &mut rt.stdout(), &mut machine)
 }
 
 // `report` has said what went wrong, so `main` returns the status alone: a returned error would be printed a second time.
 fn main(rt: HostRuntime) -> ExitCode {
-    match report(&rt, "span", run(&rt)) {
-        Ok(()) => ExitCode::SUCCESS,
-        Err(_) => ExitCode::FAILURE,
-    }
+    report(&rt, "span", run(&rt))
 }
