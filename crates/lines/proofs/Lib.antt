@@ -1,3 +1,0 @@
-pub mod Tells
-pub mod SpanLaws
-pub mod ScriptLaws

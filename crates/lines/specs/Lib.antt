@@ -1,3 +1,6 @@
 pub mod Lines
 pub mod Spans
 pub mod Scripts
+pub mod Readings
+pub mod SpanLaws
+pub mod ScriptLaws

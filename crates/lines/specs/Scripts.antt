@@ -2,10 +2,10 @@
 use Rattle.std.specs.Prelude.{ℕ, ◌^◌, ◌<◌, cond, List, [], ◌∷◌, Some, None, slice_index, codes, decimal, Option}
 use Rattle.std.specs.Option.{option_map}
 use Rattle.std.specs.Str.{bytes_eq}
-use Rattle.lines.specs.declared.Line.{Line}
+use Rattle.clocks.specs.declared.counting.Drift.{Drift}
+use Rattle.clocks.specs.declared.counting.Drift.TheVariants.{Fast, Slow}
 use Rattle.lines.specs.declared.scripts.ScriptRequest.{ScriptRequest}
-use Rattle.lines.specs.declared.scripts.ScriptRequest.TheVariants.{World, Pass, Fast, Slow, Ask, Answer, Honest, Span}
-use Rattle.lines.specs.Lines.{line_by, Told, ReadsBack}
+use Rattle.lines.specs.declared.scripts.ScriptRequest.TheVariants.{World, Pass, Clock, Ask, Answer, Honest, Span}
 use Rattle.words.specs.Numbers.{number_of, then, one_of, numbers_of}
 
 -- what the words behind each keyword are read as
@@ -15,20 +15,20 @@ world_of ws = option_map (λ ns. World (slice_index ns 0) (slice_index ns 1) (sl
 abbrev pub pass_of : List (List ℕ) → Option ScriptRequest
 pass_of ws = option_map (λ ns. Pass (slice_index ns 0)) (numbers_of 1 ws)
 
--- the way that a clock runs, for a machine and so many parts in a million
-abbrev pub way_of : List ℕ → ℕ → ℕ → Option ScriptRequest
-way_of way machine parts = cond (bytes_eq way (codes "fast")) (Some (Fast machine parts)) (cond (bytes_eq way (codes "slow")) (Some (Slow machine parts)) None)
+-- how a clock runs, by the word for it and so many parts in a million
+abbrev pub drift_of : List ℕ → ℕ → Option Drift
+drift_of way parts = cond (bytes_eq way (codes "fast")) (Some (Fast parts)) (cond (bytes_eq way (codes "slow")) (Some (Slow parts)) None)
 
 abbrev pub clock_of : List (List ℕ) → Option ScriptRequest
 clock_of [] = None
 clock_of (h ∷ []) = None
-clock_of (h ∷ way ∷ ws) = then (number_of h) (λ machine. then (one_of ws) (λ parts. way_of way machine parts))
+clock_of (h ∷ way ∷ ws) = then (number_of h) (λ machine. then (one_of ws) (λ parts. option_map (Clock machine) (drift_of way parts)))
 
 abbrev pub ask_of : List (List ℕ) → Option ScriptRequest
 ask_of ws = option_map (λ ns. Ask (slice_index ns 0) (slice_index ns 1)) (numbers_of 2 ws)
 
 abbrev pub answer_of : List (List ℕ) → Option ScriptRequest
-answer_of ws = option_map (λ ns. Answer (slice_index ns 0) (slice_index ns 1) (slice_index ns 2) (slice_index ns 3)) (numbers_of 4 ws)
+answer_of ws = option_map (λ ns. Answer (slice_index ns 0) (slice_index ns 1) (record { low = slice_index ns 2; high = slice_index ns 3 })) (numbers_of 4 ws)
 
 abbrev pub honest_of : List (List ℕ) → Option ScriptRequest
 honest_of ws = option_map (λ ns. Honest (slice_index ns 0) (slice_index ns 1) (slice_index ns 2) (slice_index ns 3)) (numbers_of 4 ws)
@@ -48,33 +48,30 @@ script_request (k ∷ ws) =
     (cond (bytes_eq k (codes "honest")) (honest_of ws)
     (cond (bytes_eq k (codes "span")) (span_of ws) None))))))
 
-abbrev pub script_line : List ℕ → Line ScriptRequest
-script_line bs = line_by script_request bs
+abbrev pub drift_words : Drift → List (List ℕ)
+drift_words (Fast parts) = codes "fast" ∷ decimal parts ∷ []
+drift_words (Slow parts) = codes "slow" ∷ decimal parts ∷ []
 
 -- the words that a request is written as; `decimal n` is what `{n}` writes of a number
 abbrev pub script_words : ScriptRequest → List (List ℕ)
 script_words (World machines servers faulty rate) = codes "world" ∷ decimal machines ∷ decimal servers ∷ decimal faulty ∷ decimal rate ∷ []
 script_words (Pass by) = codes "pass" ∷ decimal by ∷ []
-script_words (Fast machine parts) = codes "clock" ∷ decimal machine ∷ codes "fast" ∷ decimal parts ∷ []
-script_words (Slow machine parts) = codes "clock" ∷ decimal machine ∷ codes "slow" ∷ decimal parts ∷ []
+script_words (Clock machine drift) = codes "clock" ∷ decimal machine ∷ drift_words drift
 script_words (Ask machine server) = codes "ask" ∷ decimal machine ∷ decimal server ∷ []
-script_words (Answer machine server low high) = codes "answer" ∷ decimal machine ∷ decimal server ∷ decimal low ∷ decimal high ∷ []
+script_words (Answer machine server span) = codes "answer" ∷ decimal machine ∷ decimal server ∷ decimal span.low ∷ decimal span.high ∷ []
 script_words (Honest machine server less more) = codes "honest" ∷ decimal machine ∷ decimal server ∷ decimal less ∷ decimal more ∷ []
 script_words (Span machine) = codes "span" ∷ decimal machine ∷ []
+
+abbrev pub parts_of : Drift → ℕ
+parts_of (Fast parts) = parts
+parts_of (Slow parts) = parts
 
 -- the numbers of a request are below 2 ^ 64
 abbrev pub ScriptFits : ScriptRequest → Type 0
 ScriptFits (World machines servers faulty rate) = (machines < 2 ^ 64) × (servers < 2 ^ 64) × (faulty < 2 ^ 64) × (rate < 2 ^ 64)
 ScriptFits (Pass by) = by < 2 ^ 64
-ScriptFits (Fast machine parts) = (machine < 2 ^ 64) × (parts < 2 ^ 64)
-ScriptFits (Slow machine parts) = (machine < 2 ^ 64) × (parts < 2 ^ 64)
+ScriptFits (Clock machine drift) = (machine < 2 ^ 64) × (parts_of drift < 2 ^ 64)
 ScriptFits (Ask machine server) = (machine < 2 ^ 64) × (server < 2 ^ 64)
-ScriptFits (Answer machine server low high) = (machine < 2 ^ 64) × (server < 2 ^ 64) × (low < 2 ^ 64) × (high < 2 ^ 64)
+ScriptFits (Answer machine server span) = (machine < 2 ^ 64) × (server < 2 ^ 64) × (span.low < 2 ^ 64) × (span.high < 2 ^ 64)
 ScriptFits (Honest machine server less more) = (machine < 2 ^ 64) × (server < 2 ^ 64) × (less < 2 ^ 64) × (more < 2 ^ 64)
 ScriptFits (Span machine) = machine < 2 ^ 64
-
-abbrev pub ScriptTold : List ℕ → Line ScriptRequest → Type 0
-ScriptTold bs r = Told script_words ScriptFits bs r
-
-abbrev pub ScriptsReadBack : Type 0
-ScriptsReadBack = ReadsBack script_words ScriptFits script_line

@@ -2,10 +2,8 @@
 use Rattle.std.specs.Prelude.{ℕ, ◌^◌, ◌<◌, cond, List, [], ◌∷◌, None, slice_index, codes, decimal, Option}
 use Rattle.std.specs.Option.{option_map}
 use Rattle.std.specs.Str.{bytes_eq}
-use Rattle.lines.specs.declared.Line.{Line}
 use Rattle.lines.specs.declared.spans.SpanRequest.{SpanRequest}
 use Rattle.lines.specs.declared.spans.SpanRequest.TheVariants.{Asked, Answer, Now}
-use Rattle.lines.specs.Lines.{line_by, Told, ReadsBack}
 use Rattle.words.specs.Numbers.{numbers_of}
 
 -- what the words behind each keyword are read as
@@ -13,7 +11,7 @@ abbrev pub asked_of : List (List ℕ) → Option SpanRequest
 asked_of ws = option_map (λ ns. Asked (slice_index ns 0) (slice_index ns 1)) (numbers_of 2 ws)
 
 abbrev pub answer_of : List (List ℕ) → Option SpanRequest
-answer_of ws = option_map (λ ns. Answer (slice_index ns 0) (slice_index ns 1) (slice_index ns 2) (slice_index ns 3)) (numbers_of 4 ws)
+answer_of ws = option_map (λ ns. Answer (slice_index ns 0) (slice_index ns 1) (record { low = slice_index ns 2; high = slice_index ns 3 })) (numbers_of 4 ws)
 
 abbrev pub now_of : List (List ℕ) → Option SpanRequest
 now_of ws = option_map (λ ns. Now (slice_index ns 0)) (numbers_of 1 ws)
@@ -26,23 +24,14 @@ span_request (k ∷ ws) =
     (cond (bytes_eq k (codes "answer")) (answer_of ws)
     (cond (bytes_eq k (codes "now")) (now_of ws) None))
 
-abbrev pub span_line : List ℕ → Line SpanRequest
-span_line bs = line_by span_request bs
-
 -- the words that a request is written as; `decimal n` is what `{n}` writes of a number
 abbrev pub span_words : SpanRequest → List (List ℕ)
 span_words (Asked server clock) = codes "asked" ∷ decimal server ∷ decimal clock ∷ []
-span_words (Answer server clock low high) = codes "answer" ∷ decimal server ∷ decimal clock ∷ decimal low ∷ decimal high ∷ []
+span_words (Answer server clock span) = codes "answer" ∷ decimal server ∷ decimal clock ∷ decimal span.low ∷ decimal span.high ∷ []
 span_words (Now clock) = codes "now" ∷ decimal clock ∷ []
 
 -- the numbers of a request are below 2 ^ 64
 abbrev pub SpanFits : SpanRequest → Type 0
 SpanFits (Asked server clock) = (server < 2 ^ 64) × (clock < 2 ^ 64)
-SpanFits (Answer server clock low high) = (server < 2 ^ 64) × (clock < 2 ^ 64) × (low < 2 ^ 64) × (high < 2 ^ 64)
+SpanFits (Answer server clock span) = (server < 2 ^ 64) × (clock < 2 ^ 64) × (span.low < 2 ^ 64) × (span.high < 2 ^ 64)
 SpanFits (Now clock) = clock < 2 ^ 64
-
-abbrev pub SpanTold : List ℕ → Line SpanRequest → Type 0
-SpanTold bs r = Told span_words SpanFits bs r
-
-abbrev pub SpansReadBack : Type 0
-SpansReadBack = ReadsBack span_words SpanFits span_line

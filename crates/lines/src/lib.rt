@@ -7,57 +7,79 @@
 //! that the request is written as, up to zeros in front of its numbers, and it is unreadable only if that holds of no request. Every
 //! request has a line that reads back as it.
 //!
-//! Each kind of line is read by a small function from what is left behind its keyword, and the keywords of a program stand in one place.
+//! What a program is asked for is a type with the trait `Request`, whose laws are what `read` rests on: each is proved once for all of
+//! them.
 #![tactic(auto)]
 
-ghost use Rattle.std.specs.Prelude.{◌≡◌};
-ghost use Rattle.std.specs.Str.{bytes_eq};
-ghost use Rattle.lines.specs.Lines.{skipped};
+ghost use Rattle.std.specs.Prelude.{◌≡◌, ℕ, List, Option};
+ghost use Rattle.lines.specs.Lines.{ReadsBack, RequestLaws, Told, line_by, skipped};
 
 pub mod scripts;
 pub mod spans;
 
-pub use scripts::{ScriptRequest, script_line};
-pub use spans::{SpanRequest, span_line};
+pub use scripts::ScriptRequest;
+pub use spans::SpanRequest;
+use words::Words;
 
-/// What a line is.
-#[derive(Clone, Copy, Drop)]
-pub enum Line<R> {
-    /// It is empty or a comment, and passed over.
-    Nothing,
-    Request(R),
-    Unreadable,
+/// A request that words are read as.
+pub trait Request: Sized {
+    // The words that a request is written as.
+    ghost written: { Self → List (List ℕ) };
+
+    // The numbers of a request are below 2 ^ 64.
+    ghost fits: { Self → Type 0 };
+
+    // The request that words are, if they are one.
+    ghost request_of: { List (List ℕ) → Option Self };
+
+    /// Reads the words of a line, if they are a request.
+    fn read(words: Words<'_>) -> Option<Self>
+        ensures { result ≡ request_of words.entry };
+
+    // Words are read as the request that they are written as, and as no other.
+    ghost laws: { RequestLaws written fits request_of };
 }
+
+/// A line that is no request.
+#[derive(Clone, Copy, PartialEq, Eq, Debug)]
+pub struct Unreadable;
 
 // Whether a line is empty or a comment.
 fn passed_over(line: &[u8]) -> bool
     ensures { result ≡ skipped line.now }
 {
-    match line {
-        [] => true,
-        [first, ..] => *first == b'#',
-    }
+    matches!(line, [] | [b'#', ..])
 }
 
-// Whether a word is this one.
-fn is(word: &[u8], name: &[u8]) -> bool
-    ensures { result ≡ bytes_eq word.now name.now }
+/// The request that a line is, and nothing where it is passed over.
+pub fn read<R: Request>(line: &[u8]) -> Option<Result<R, Unreadable>>
+    ensures value { result ≡ line_by R.request_of line.now }
+    ensures told { Told R.written R.fits line.now result }
 {
-    word == name
+    if passed_over(line) {
+        return None;
+    }
+    Some(R::read(Words::of(line)).ok_or(Unreadable))
 }
+
+/// Carries the law that the line of every request reads back as that request.
+pub fn requests_read_back<R: Request>()
+    ensures { ReadsBack R.written R.fits (line_by R.request_of) }
+{}
 
 #[cfg(test)]
 mod tests {
     use super::*;
+    use clocks::counting::Drift;
 
     fn unreadable(line: &[u8]) -> bool {
-        matches!(span_line(line), Line::Unreadable)
+        read::<SpanRequest>(line) == Some(Err(Unreadable))
     }
 
     // The clock reading of a `now` line.
     fn shown(line: &[u8]) -> Option<u64> {
-        match span_line(line) {
-            Line::Request(SpanRequest::Now { clock }) => Some(clock),
+        match read(line) {
+            Some(Ok(SpanRequest::Now { clock })) => Some(clock),
             _ => None,
         }
     }
@@ -98,18 +120,17 @@ mod tests {
 
     #[test]
     fn passed(rt: HostRuntime) {
-        assert!(rt; matches!(span_line(b""), Line::Nothing));
-        assert!(rt; matches!(span_line(b"# now 1"), Line::Nothing));
-        assert!(rt; matches!(script_line(b"#"), Line::Nothing));
-        assert!(rt;
-            matches!(
-                script_line(b"clock 1 slow 7"),
-                Line::Request(ScriptRequest::Slow {
-                    machine: 1,
-                    parts: 7
-                })
-            )
+        assert_eq!(rt; read::<SpanRequest>(b""), None);
+        assert_eq!(rt; read::<SpanRequest>(b"# now 1"), None);
+        assert_eq!(rt; read::<ScriptRequest>(b"#"), None);
+        let slow = ScriptRequest::Clock {
+            machine: 1,
+            drift: Drift::Slow(7),
+        };
+        assert_eq!(rt; read(b"clock 1 slow 7"), Some(Ok(slow)));
+        assert_eq!(rt;
+            read::<ScriptRequest>(b"clock 1 still 7"),
+            Some(Err(Unreadable))
         );
-        assert!(rt; matches!(script_line(b"clock 1 still 7"), Line::Unreadable));
     }
 }

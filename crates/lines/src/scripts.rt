@@ -1,14 +1,15 @@
 //! The lines of the program that plays a script.
-ghost use Rattle.std.specs.Prelude.{◌≡◌, false};
-ghost use Rattle.lines.specs.Lines.{as_line, skipped};
-ghost use Rattle.lines.specs.Scripts.{ScriptTold, ScriptsReadBack, answer_of, ask_of, clock_of, honest_of, pass_of, script_line, script_request, span_of, way_of, world_of};
-ghost use Rattle.words.specs.Words.{words_of};
+ghost use Rattle.std.specs.Prelude.{◌≡◌};
+ghost use Rattle.lines.specs.Scripts.{ScriptFits, answer_of, ask_of, clock_of, drift_of, honest_of, pass_of, script_request, script_words, span_of, world_of};
+ghost use Rattle.lines.specs.ScriptLaws.{script_laws};
 
-use super::{Line, is, passed_over};
+use super::Request;
+use clocks::counting::Drift;
+use clocks::growth::Span;
 use words::Words;
 
 /// A request to the program that plays a script.
-#[derive(Clone, Copy, Drop)]
+#[derive(Clone, Copy, PartialEq, Eq, Debug)]
 pub enum ScriptRequest {
     World {
         machines: u64,
@@ -19,13 +20,9 @@ pub enum ScriptRequest {
     Pass {
         by: u64,
     },
-    Fast {
+    Clock {
         machine: u64,
-        parts: u64,
-    },
-    Slow {
-        machine: u64,
-        parts: u64,
+        drift: Drift,
     },
     Ask {
         machine: u64,
@@ -34,8 +31,7 @@ pub enum ScriptRequest {
     Answer {
         machine: u64,
         server: u64,
-        low: u64,
-        high: u64,
+        span: Span,
     },
     Honest {
         machine: u64,
@@ -46,6 +42,29 @@ pub enum ScriptRequest {
     Span {
         machine: u64,
     },
+}
+
+impl Request for ScriptRequest {
+    ghost written = { script_words };
+
+    ghost fits = { ScriptFits };
+
+    ghost request_of = { script_request };
+
+    ghost laws = { script_laws };
+
+    fn read(mut words: Words<'_>) -> Option<ScriptRequest> {
+        match words.next()? {
+            b"world" => world(words),
+            b"pass" => pass(words),
+            b"clock" => clock(words),
+            b"ask" => ask(words),
+            b"answer" => answer(words),
+            b"honest" => honest(words),
+            b"span" => span(words),
+            _ => None,
+        }
+    }
 }
 
 fn world(words: Words<'_>) -> Option<ScriptRequest>
@@ -67,15 +86,14 @@ fn pass(words: Words<'_>) -> Option<ScriptRequest>
     Some(ScriptRequest::Pass { by })
 }
 
-fn way_of(way: &[u8], machine: u64, parts: u64) -> Option<ScriptRequest>
-    ensures { result ≡ way_of way.now machine parts }
+// How a clock is to run, by the word for it and so many parts in a million.
+fn drift(way: &[u8], parts: u64) -> Option<Drift>
+    ensures { result ≡ drift_of way.now parts }
 {
-    if is(way, b"fast") {
-        Some(ScriptRequest::Fast { machine, parts })
-    } else if is(way, b"slow") {
-        Some(ScriptRequest::Slow { machine, parts })
-    } else {
-        None
+    match way {
+        b"fast" => Some(Drift::Fast(parts)),
+        b"slow" => Some(Drift::Slow(parts)),
+        _ => None,
     }
 }
 
@@ -85,7 +103,8 @@ fn clock(mut words: Words<'_>) -> Option<ScriptRequest>
     let machine = words.next_number()?;
     let way = words.next()?;
     let [parts] = words.numbers::<1>()?;
-    way_of(way, machine, parts)
+    let drift = drift(way, parts)?;
+    Some(ScriptRequest::Clock { machine, drift })
 }
 
 fn ask(words: Words<'_>) -> Option<ScriptRequest>
@@ -99,11 +118,11 @@ fn answer(words: Words<'_>) -> Option<ScriptRequest>
     ensures { result ≡ answer_of words.entry }
 {
     let [machine, server, low, high] = words.numbers::<4>()?;
+    let span = Span { low, high };
     Some(ScriptRequest::Answer {
         machine,
         server,
-        low,
-        high,
+        span,
     })
 }
 
@@ -124,58 +143,4 @@ fn span(words: Words<'_>) -> Option<ScriptRequest>
 {
     let [machine] = words.numbers::<1>()?;
     Some(ScriptRequest::Span { machine })
-}
-
-fn script_request(line: &[u8]) -> Option<ScriptRequest>
-    ensures { result ≡ script_request (words_of line.now) }
-{
-    let mut words = Words::of(line);
-    let keyword = words.next()?;
-    if is(keyword, b"world") {
-        world(words)
-    } else if is(keyword, b"pass") {
-        pass(words)
-    } else if is(keyword, b"clock") {
-        clock(words)
-    } else if is(keyword, b"ask") {
-        ask(words)
-    } else if is(keyword, b"answer") {
-        answer(words)
-    } else if is(keyword, b"honest") {
-        honest(words)
-    } else if is(keyword, b"span") {
-        span(words)
-    } else {
-        None
-    }
-}
-
-// What a line is that is not passed over.
-fn script_asked(line: &[u8]) -> Line<ScriptRequest>
-    ensures value { result ≡ as_line (script_request (words_of line.now)) }
-    ensures told { skipped line.now ≡ false → ScriptTold line.now result }
-{
-    match script_request(line) {
-        Some(request) => Line::Request(request),
-        None => Line::Unreadable,
-    }
-}
-
-/// A line of the program that plays a script.
-pub fn script_line(line: &[u8]) -> Line<ScriptRequest>
-    ensures value { result ≡ script_line line.now }
-    ensures told { ScriptTold line.now result }
-{
-    if passed_over(line) {
-        Line::Nothing
-    } else {
-        script_asked(line)
-    }
-}
-
-/// Carries the law that the line of every request reads back as that request; the value means nothing.
-pub fn scripts_read_back() -> u8
-    ensures { ScriptsReadBack }
-{
-    0
 }

@@ -4,12 +4,10 @@ use Rattle.answers.specs.declared.Said.{Said}
 use Rattle.answers.specs.declared.Said.TheVariants as said
 use Rattle.answers.specs.declared.Reply.{Reply as Answer}
 use Rattle.answers.specs.declared.Reply.TheVariants as answer
-use Rattle.lines.specs.declared.Line.{Line}
-use Rattle.lines.specs.declared.Line.TheVariants as line
+use Rattle.lines.specs.declared.Unreadable.{Unreadable}
 use Rattle.lines.specs.declared.scripts.ScriptRequest.{ScriptRequest}
 use Rattle.lines.specs.declared.scripts.ScriptRequest.TheVariants as request
 use Rattle.clocks.specs.declared.counting.Drift.{Drift}
-use Rattle.clocks.specs.declared.counting.Drift.TheVariants as drift
 use Rattle.votes.specs.declared.types.Setup.{Setup}
 use Rattle.votes.specs.declared.types.Refusal.{Refusal}
 use Rattle.votes.specs.declared.types.Refusal.TheVariants.{Invalid}
@@ -65,11 +63,9 @@ Answered P (Some a) = P a
 abbrev pub Responds : RehearsalView → ScriptRequest → RehearsalView → Option Answer → Type 0
 Responds v (request.World machines servers faulty rate) exit r = (exit ≡ v) × (r ≡ None)
 Responds v (request.Pass by) exit r = Answered (OnPass v by exit) r
-Responds v (request.Fast machine parts) exit r = Answered (OnPace v machine (drift.Fast parts) exit) r
-Responds v (request.Slow machine parts) exit r = Answered (OnPace v machine (drift.Slow parts) exit) r
+Responds v (request.Clock machine d) exit r = Answered (OnPace v machine d exit) r
 Responds v (request.Ask machine server) exit r = Answered (OnInput v machine (input.Ask server) exit) r
-Responds v (request.Answer machine server low high) exit r =
-    Answered (OnInput v machine (answer_input v machine server (record { low = low; high = high })) exit) r
+Responds v (request.Answer machine server span) exit r = Answered (OnInput v machine (answer_input v machine server span) exit) r
 Responds v (request.Honest machine server less more) exit r =
     Answered (OnInput v machine (answer_input v machine server (around_now v less more)) exit) r
 Responds v (request.Span machine) exit r = Answered (OnInput v machine input.Span exit) r
@@ -101,15 +97,14 @@ Goes (Some v) q (Some exit) r = Responds v q exit (Some r)
 abbrev pub Scripted : Option RehearsalView → ScriptRequest → Option RehearsalView → Answer → Type 0
 Scripted v (request.World machines servers faulty rate) exit r = Begins v machines (setup_of servers faulty rate) exit r
 Scripted v (request.Pass by) exit r = Goes v (request.Pass by) exit r
-Scripted v (request.Fast machine parts) exit r = Goes v (request.Fast machine parts) exit r
-Scripted v (request.Slow machine parts) exit r = Goes v (request.Slow machine parts) exit r
+Scripted v (request.Clock machine drift) exit r = Goes v (request.Clock machine drift) exit r
 Scripted v (request.Ask machine server) exit r = Goes v (request.Ask machine server) exit r
-Scripted v (request.Answer machine server low high) exit r = Goes v (request.Answer machine server low high) exit r
+Scripted v (request.Answer machine server span) exit r = Goes v (request.Answer machine server span) exit r
 Scripted v (request.Honest machine server less more) exit r = Goes v (request.Honest machine server less more) exit r
 Scripted v (request.Span machine) exit r = Goes v (request.Span machine) exit r
 
 -- EACH LINE
-abbrev pub Heard : Option RehearsalView → Line ScriptRequest → Option RehearsalView → Option Answer → Type 0
-Heard v line.Nothing exit r = (exit ≡ v) × (r ≡ None)
-Heard v (line.Request q) exit r = Answered (Scripted v q exit) r
-Heard v line.Unreadable exit r = (exit ≡ v) × (r ≡ Some (not_taken v))
+abbrev pub Heard : Option RehearsalView → Option (Result ScriptRequest Unreadable) → Option RehearsalView → Option Answer → Type 0
+Heard v None exit r = (exit ≡ v) × (r ≡ None)
+Heard v (Some (Ok q)) exit r = Answered (Scripted v q exit) r
+Heard v (Some (Err e)) exit r = (exit ≡ v) × (r ≡ Some (not_taken v))

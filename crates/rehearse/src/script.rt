@@ -1,13 +1,14 @@
 //! What each request of a script does.
 ghost use Rattle.std.specs.Prelude.{◌≡◌, None};
-ghost use Rattle.lines.specs.Scripts.{script_line};
-ghost use Rattle.rehearse.specs.Responds.{Begins, Heard, OnInput, OnPace, OnPass, Responds, Scripted, machine_says, not_taken, pace_done, refused_as, said_of, time_of, world_says};
+ghost use Rattle.lines.specs.Lines.{line_by};
+ghost use Rattle.lines.specs.Scripts.{script_request};
+ghost use Rattle.rehearse.specs.Responds.{Begins, Heard, OnInput, OnPace, OnPass, Responds, Scripted, machine_says, not_taken, refused_as, said_of, time_of, world_says};
 
 use super::rehearsal::Rehearsal;
 use answers::{Reply, Said};
 use clocks::counting::Drift;
 use clocks::growth::Span;
-use lines::{Line, ScriptRequest, script_line};
+use lines::{ScriptRequest, Unreadable};
 use std::alloc::Global;
 use votes::types::{Refusal, Setup};
 use world::actions::{self, Input};
@@ -94,22 +95,16 @@ impl Rehearsal {
         match request {
             ScriptRequest::World { .. } => None,
             ScriptRequest::Pass { by } => Some(self.on_pass(by)),
-            ScriptRequest::Fast { machine, parts } => {
-                Some(self.on_pace(machine, Drift::Fast(parts)))
-            }
-            ScriptRequest::Slow { machine, parts } => {
-                Some(self.on_pace(machine, Drift::Slow(parts)))
-            }
+            ScriptRequest::Clock { machine, drift } => Some(self.on_pace(machine, drift)),
             ScriptRequest::Ask { machine, server } => {
                 Some(self.on_input(machine, Input::Ask(server as usize)))
             }
             ScriptRequest::Answer {
                 machine,
                 server,
-                low,
-                high,
+                span,
             } => {
-                let answer = self.answer(machine, server, Span { low, high });
+                let answer = self.answer(machine, server, span);
                 Some(self.on_input(machine, answer))
             }
             ScriptRequest::Honest {
@@ -204,12 +199,11 @@ impl Script {
 
     /// What is said to a line, and nothing to one that is passed over.
     pub(crate) fn hear(&mut self, line: &[u8]) -> Option<Reply>
-        ensures { Heard self.old.playing (script_line line.now) self.new.playing result }
+        ensures { Heard self.old.playing (line_by script_request line.now) self.new.playing result }
     {
-        match script_line(line) {
-            Line::Nothing => None,
-            Line::Request(request) => Some(self.respond(request)),
-            Line::Unreadable => Some(self.unreadable()),
+        match lines::read(line)? {
+            Ok(request) => Some(self.respond(request)),
+            Err(Unreadable) => Some(self.unreadable()),
         }
     }
 }

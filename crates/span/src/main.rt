@@ -6,14 +6,15 @@
 
 ghost use Rattle.std.specs.Prelude.{◌≡◌, true, false, MatchOption};
 ghost use Rattle.votes.specs.Exchanges.{opened, valid_setup};
-ghost use Rattle.lines.specs.Spans.{span_line};
+ghost use Rattle.lines.specs.Lines.{line_by};
+ghost use Rattle.lines.specs.Spans.{span_request};
 ghost use Rattle.span.specs.Respond.{setup_of, said_of, after_of, heard, heard_after};
 
 use answers::{Reply, Said, put_reply};
 use anyhow::Context;
 use clocks::growth::Span;
 use console::{Program, arguments, report, serve};
-use lines::{Line, SpanRequest, span_line};
+use lines::{SpanRequest, Unreadable};
 use std::alloc::AllocError;
 use std::process::ExitCode;
 use votes::types::{Refusal, Setup, Votes};
@@ -50,12 +51,11 @@ fn respond(votes: &mut Votes, request: SpanRequest) -> Said
         SpanRequest::Answer {
             server,
             clock,
-            low,
-            high,
+            span,
         } => {
             let number = votes.last_ask(server as usize).unwrap_or(0);
             votes
-                .answer(server as usize, number, Span { low, high }, clock)
+                .answer(server as usize, number, span, clock)
                 .map(|()| Said::Ok)
         }
         SpanRequest::Now { clock } => votes.span(clock).map(Said::Span),
@@ -70,13 +70,12 @@ struct Machine {
 
 // What is said to a line, and nothing to one that is passed over.
 fn hear(votes: &mut Votes, line: &[u8]) -> Option<Said>
-    ensures said { result ≡ heard votes.old (span_line line.now) }
-    ensures after { votes.new ≡ heard_after votes.old (span_line line.now) }
+    ensures said { result ≡ heard votes.old (line_by span_request line.now) }
+    ensures after { votes.new ≡ heard_after votes.old (line_by span_request line.now) }
 {
-    match span_line(line) {
-        Line::Nothing => None,
-        Line::Request(request) => Some(respond(votes, request)),
-        Line::Unreadable => Some(Said::refused(Refusal::Invalid.number())),
+    match lines::read(line)? {
+        Ok(request) => Some(respond(votes, request)),
+        Err(Unreadable) => Some(Said::refused(Refusal::Invalid.number())),
     }
 }
 

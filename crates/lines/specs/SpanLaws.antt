@@ -4,15 +4,15 @@ use Rattle.std.proofs.Common.{◌≡◌, ℕ, ◌<◌, false, List, [], ◌∷�
 use Rattle.std.specs.Option.{option_map}
 use Rattle.std.specs.List.{AllByRecursion}
 use Rattle.std.specs.Str.{bytes_eq}
-use Rattle.words.specs.Words.{joined, words_of}
-use Rattle.words.proofs.Good.{Good, good_key, good_decimal}
+use Rattle.words.specs.Words.{joined}
+use Rattle.words.proofs.Joins.{joined_words}
+use Rattle.words.proofs.Good.{Good, all_same, all_whole, good_key, good_decimal}
 use Rattle.words.proofs.Plainly.{key_plain, numbers_complete}
-use Rattle.lines.specs.declared.Line.{Line}
 use Rattle.lines.specs.declared.spans.SpanRequest.{SpanRequest}
 use Rattle.lines.specs.declared.spans.SpanRequest.TheVariants.{Asked, Answer, Now}
-use Rattle.lines.specs.Lines.{skipped, as_line}
-use Rattle.lines.specs.Spans.{asked_of, answer_of, now_of, span_request, span_words, SpanFits, SpanTold, SpansReadBack}
-use Rattle.lines.proofs.Tells.{Reads, pick, keyed, none, read_numbers, no_words, told_on, read_back}
+use Rattle.lines.specs.Lines.{skipped, RequestLaws}
+use Rattle.lines.specs.Spans.{asked_of, answer_of, now_of, span_request, span_words, SpanFits}
+use Rattle.lines.specs.Readings.{Reads, pick, keyed, none, read_numbers, no_words}
 
 abbrev SpanReads : List (List ℕ) → SpanRequest → Type 0
 SpanReads ws q = Reads span_words SpanFits ws q
@@ -23,35 +23,38 @@ sound (k ∷ ws) q e =
     pick (bytes_eq k (codes "asked")) (asked_of ws) _ q (SpanReads (k ∷ ws) q)
     (λ t h. read_numbers span_words SpanFits 2 (λ ns. Asked (slice_index ns 0) (slice_index ns 1)) (codes "asked") refl (λ ns. refl) (λ ns h. (h.0, h.1.0)) k ws q (keyed k (codes "asked") t) h)
     (λ e. pick (bytes_eq k (codes "answer")) (answer_of ws) _ q (SpanReads (k ∷ ws) q)
-    (λ t h. read_numbers span_words SpanFits 4 (λ ns. Answer (slice_index ns 0) (slice_index ns 1) (slice_index ns 2) (slice_index ns 3)) (codes "answer") refl (λ ns. refl) (λ ns h. (h.0, h.1.0, h.1.1.0, h.1.1.1.0)) k ws q (keyed k (codes "answer") t) h)
+    (λ t h. read_numbers span_words SpanFits 4 (λ ns. Answer (slice_index ns 0) (slice_index ns 1) (record { low = slice_index ns 2; high = slice_index ns 3 })) (codes "answer") refl (λ ns. refl) (λ ns h. (h.0, h.1.0, h.1.1.0, h.1.1.1.0)) k ws q (keyed k (codes "answer") t) h)
     (λ e. pick (bytes_eq k (codes "now")) (now_of ws) None q (SpanReads (k ∷ ws) q)
     (λ t h. read_numbers span_words SpanFits 1 (λ ns. Now (slice_index ns 0)) (codes "now") refl (λ ns. refl) (λ ns h. h.0) k ws q (keyed k (codes "now") t) h)
     (none q) e) e) e
 
 some : (q : SpanRequest) → 0 < length (span_words q)
 some (Asked a b) = lit< tt
-some (Answer a b c d) = lit< tt
+some (Answer a b s) = lit< tt
 some (Now a) = lit< tt
 
 complete : (ws : List (List ℕ)) (q : SpanRequest) → SpanReads ws q → span_request ws ≡ Some q
 complete [] q h = no_words (span_words q) (some q) h.1
 complete (k ∷ ws) (Asked a b) h = ap (λ x. span_request (x ∷ ws)) (key_plain k (codes "asked") refl (cc)) ∙ ap (option_map (λ ns. Asked (slice_index ns 0) (slice_index ns 1))) (numbers_complete ws (a ∷ b ∷ []) (h.0.0, (h.0.1, tt)) (cc))
-complete (k ∷ ws) (Answer a b c d) h =
-    ap (λ x. span_request (x ∷ ws)) (key_plain k (codes "answer") refl (cc)) ∙ ap (option_map (λ ns. Answer (slice_index ns 0) (slice_index ns 1) (slice_index ns 2) (slice_index ns 3))) (numbers_complete ws (a ∷ b ∷ c ∷ d ∷ []) (h.0.0, (h.0.1, (h.0.2, (h.0.3, tt)))) (cc))
+complete (k ∷ ws) (Answer a b s) h =
+    ap (λ x. span_request (x ∷ ws)) (key_plain k (codes "answer") refl (cc)) ∙ ap (option_map (λ ns. Answer (slice_index ns 0) (slice_index ns 1) (record { low = slice_index ns 2; high = slice_index ns 3 }))) (numbers_complete ws (a ∷ b ∷ s.low ∷ s.high ∷ []) (h.0.0, (h.0.1, (h.0.2, (h.0.3, tt)))) (cc))
 complete (k ∷ ws) (Now a) h = ap (λ x. span_request (x ∷ ws)) (key_plain k (codes "now") refl (cc)) ∙ ap (option_map (λ ns. Now (slice_index ns 0))) (numbers_complete ws (a ∷ []) (h.0, tt) (cc))
-
-pub span_told : (bs : List ℕ) (r : Line SpanRequest) → r ≡ as_line (span_request (words_of bs)) → skipped bs ≡ false → SpanTold bs r
-span_told = told_on span_words SpanFits span_request sound complete
 
 begins : (q : SpanRequest) → skipped (joined (span_words q)) ≡ false
 begins (Asked a b) = refl
-begins (Answer a b c d) = refl
+begins (Answer a b s) = refl
 begins (Now a) = refl
 
 good : (q : SpanRequest) → SpanFits q → AllByRecursion Good (span_words q)
 good (Asked a b) h = (good_key (codes "asked") refl refl, (good_decimal a h.0, (good_decimal b h.1, tt)))
-good (Answer a b c d) h = (good_key (codes "answer") refl refl, (good_decimal a h.0, (good_decimal b h.1, (good_decimal c h.2, (good_decimal d h.3, tt)))))
+good (Answer a b s) h = (good_key (codes "answer") refl refl, (good_decimal a h.0, (good_decimal b h.1, (good_decimal s.low h.2, (good_decimal s.high h.3, tt)))))
 good (Now a) h = (good_key (codes "now") refl refl, (good_decimal a h, tt))
 
-pub spans_read_back_lem : SpansReadBack
-spans_read_back_lem = read_back span_words SpanFits span_request sound complete some begins good
+pub span_laws : RequestLaws span_words SpanFits span_request
+span_laws = record {
+  sound = sound;
+  complete = λ ws q fits e. complete ws q (fits, e);
+  same = λ q fits. all_same (span_words q) (good q fits);
+  cut = λ q fits. joined_words (span_words q) (some q) (all_whole (span_words q) (good q fits));
+  begins = begins;
+}
