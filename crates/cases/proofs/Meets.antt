@@ -1,8 +1,8 @@
 -- The premises of the promise about spans can be met.
 use Rattle.std.proofs.Common.{◌≡◌, ◌≤◌, sym, refl, ap, arith, lit<, lit≤}
-use Rattle.votes.specs.declared.types.Answer.{Answer}
+use Rattle.clocks.specs.declared.growth.Answer.{Answer}
 use Rattle.votes.specs.Promise.{none, good, faulty}
-use Rattle.world.specs.Step.{run, machine_of}
+use Rattle.world.specs.Step.{machine_of}
 use Rattle.world.specs.Promise.{Truthful}
 use Rattle.cases.specs.Met.{after, PremisesMet}
 
@@ -10,7 +10,7 @@ lie : Answer
 lie = record { asked = 1000100; answered = 1000120; span = record { low = 5000; high = 5001 } }
 
 lying : Truthful (machine_of after 0) 2 → ⊥
-unfolding run lie
+unfolding lie
 lying t =
     let e : lie ≡ t.answer = (let k = t.known in cc) in
     let l : t.answer.span.high ≡ 5001 = ap (λ (a : Answer). a.span.high) (sym e) in
@@ -19,7 +19,6 @@ lying t =
     omega arith
 
 pub premises_met_lem : PremisesMet
-unfolding run
 premises_met_lem =
     record {
       runs = record { slow = λ t u s h. omega arith; fast = λ t u s h. omega arith; onward = λ t u s h. omega arith };

@@ -12,7 +12,7 @@ use clocks::growth::Span;
 use votes::types::{Refusal, Setup};
 use world::actions::{Action, Input, Reply};
 
-/// The cases, each played with one machine.
+/// The cases, each played with one machine. An enum, and no array of rows, since the theorem about them goes case by case.
 #[derive(Clone, Copy, PartialEq, Eq, Debug)]
 pub enum Case {
     /// one time server, asked at 100 and answered at 140 with 5,000 to 5,010: at 200 the span is 5,059 to 5,112
@@ -314,6 +314,7 @@ pub fn every_row()
 {}
 
 /// The premises of the promise about spans can be met, with a clock that is off and a time server that lies.
+#[tactic(auto, using(crate::proofs::Meets::premises_met_lem))]
 pub fn premises_met()
     ensures { PremisesMet }
 {}

@@ -1,5 +1,5 @@
 -- A clock that counts millionths of a microsecond at a pace, and its history as a list of turns.
-use Rattle.std.specs.Prelude.{◌≡◌, ℕ, ◌+◌, ◌-◌, ◌*◌, ◌/◌, ◌≤◌, List, [], ◌∷◌, ◌++◌}
+use Rattle.std.specs.Prelude.{◌≡◌, ℕ, ◌+◌, ◌-◌, ◌*◌, ◌/◌, ◌≤◌, List, [], ◌∷◌, ◌++◌, ◌<◌, fold}
 use Rattle.clocks.specs.Time.{million, RunsFrom}
 
 -- counted: how many millionths so far; pace: how many for each microsecond of true time
@@ -20,8 +20,7 @@ abbrev pub fresh : Counting
 fresh = record { counted = 0; pace = million }
 
 abbrev pub turns : List Turn → Counting → Counting
-turns [] k = k
-turns (t ∷ ts) k = turns ts (turn t k)
+turns ts k = fold (λ k t. turn t k) k ts
 
 -- a clock, as contracts see it: how far it may be off, and how far it has counted
 pub record Dial : Type 0 where
@@ -30,6 +29,13 @@ pub record Dial : Type 0 where
 
 abbrev pub fresh_dial : ℕ → Dial
 fresh_dial rate = record { rate = rate; counting = fresh }
+
+-- it has not counted past what shows the highest number, and its pace is within its rate
+pub record IsWithin (d : Dial) : Type 0 where
+  pub shows : d.counting.counted < 18446744073709551616 * million
+  pub slowest : million - d.rate ≤ d.counting.pace
+  pub fastest : d.counting.pace ≤ million + d.rate
+  pub small : d.rate ≤ 1000
 
 -- a turn changes nothing about its rate
 abbrev pub turned : Turn → Dial → Dial

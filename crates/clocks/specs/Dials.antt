@@ -1,4 +1,4 @@
--- A counting clock as contracts see it, and which way it runs.
+-- Which way a clock runs, in numbers.
 use Rattle.std.specs.Prelude.{ℕ, ◌+◌, ◌-◌}
 use Rattle.clocks.specs.declared.counting.Drift.{Drift}
 use Rattle.clocks.specs.declared.counting.Drift.TheVariants.{Fast, Slow}

@@ -1,6 +1,6 @@
 //! A clock that counts at a given pace, for rehearsals: what it shows is off by at most its rate, over changes of its pace too.
 ghost use Rattle.std.specs.Prelude.{◌≡◌, ◌+◌, ◌-◌, ◌*◌, ◌^◌, ◌<◌, ◌≤◌, MatchOption};
-ghost use Rattle.clocks.specs.Counting.{Dial, pass, change, turn, turned, fresh_dial, shown, CountingRuns};
+ghost use Rattle.clocks.specs.Counting.{Dial, IsWithin, pass, change, turn, turned, fresh_dial, shown, CountingRuns};
 ghost use Rattle.clocks.specs.Dials.{parts_of, pace_of};
 ghost use Rattle.clocks.specs.Time.{highest};
 
@@ -43,7 +43,7 @@ impl Model for Clock {
 
     ghost view = { λ c. record { rate = c.rate; counting = record { counted = c.counted; pace = c.pace } } };
 
-    ghost invariant = { λ c. (c.counted < 18446744073709551616000000) × (1000000 - c.rate ≤ c.pace) × (c.pace ≤ 1000000 + c.rate) × (c.rate ≤ 1000) };
+    ghost invariant = { λ c. IsWithin (record { rate = c.rate; counting = record { counted = c.counted; pace = c.pace } }) };
 
     ghost inverse = { λ d. record { rate = d.rate; pace = d.counting.pace; counted = d.counting.counted } };
 }
@@ -61,7 +61,8 @@ impl Clock {
     }
 
     pub fn shows(self) -> u64
-        ensures { result ≡ shown self.counting }
+        ensures value { result ≡ shown self.counting }
+        ensures within { IsWithin self }
     {
         (self.counted / MILLION as u128) as u64
     }
@@ -101,6 +102,7 @@ impl Clock {
 }
 
 /// The theorem on clocks that count.
+#[tactic(auto, using(crate::proofs::Counts::counting_runs_lem))]
 pub fn counting_runs()
     ensures { CountingRuns }
 {}

@@ -14,6 +14,14 @@ pub struct Span {
     pub high: u64,
 }
 
+/// An answer of a time server: its span, what the clock showed at the ask that it answers, and what it showed when it came.
+#[derive(Clone, Copy, PartialEq, Eq, Debug)]
+pub struct Answer {
+    pub asked: u64,
+    pub answered: u64,
+    pub span: Span,
+}
+
 // An end raised by so much; what would pass the highest number stays there.
 fn raised(end: u64, by: u128) -> u64
     ensures { result ≡ min (end + by) highest }
@@ -21,35 +29,41 @@ fn raised(end: u64, by: u128) -> u64
     end.saturating_add(u64::try_from(by).unwrap_or(HIGHEST))
 }
 
-impl Span {
-    /// The span of an exchange at a later clock reading: the time server was asked when the clock showed `asked`, and the answer,
-    /// this span, came when it showed `answered`. The upper end grows from the ask on, since the true time may have been the
+impl Answer {
+    /// What its span has grown to at a later clock reading. The upper end grows from the ask on, since the true time may have been the
     /// span's at any moment from then on; the lower end grows from the answer on.
-    pub fn grown(self, rate: Rate, asked: u64, answered: u64, clock: u64) -> Span
-        ensures { result ≡ grown_to rate asked answered clock self }
+    pub fn grown(self, rate: Rate, clock: u64) -> Span
+        ensures { result ≡ grown_to rate self.asked self.answered clock self.span }
     {
-        let least = rate.least(clock.saturating_sub(answered));
-        let most = rate.most(clock.saturating_sub(asked));
+        let Answer {
+            asked,
+            answered,
+            span,
+        } = self;
         Span {
-            low: raised(self.low, least),
-            high: raised(self.high, most),
+            low: raised(span.low, rate.least(clock.saturating_sub(answered))),
+            high: raised(span.high, rate.most(clock.saturating_sub(asked))),
         }
     }
+}
 
+impl Span {
     /// Does a time lie in the span?
     pub fn covers(self, time: u64) -> bool
         ensures { result ≡ covers time self }
     {
-        self.low <= time && time <= self.high
+        (self.low..=self.high).contains(&time)
     }
 }
 
 /// The theorem on growth.
+#[tactic(auto, using(crate::proofs::Grows::growth_holds_lem))]
 pub fn growth_holds()
     ensures { GrowthHolds }
 {}
 
 /// Its premise can be met, by a clock that began to count when its machine came up.
+#[tactic(auto, using(crate::proofs::Grows::can_run_lem))]
 pub fn can_run()
     ensures { CanRun }
 {}

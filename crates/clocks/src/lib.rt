@@ -4,7 +4,7 @@
 //! is answered by a span that held the true time at some moment between the ask and the answer; while the machine's own clock goes
 //! on, that span grows by what the clock may be off.
 //!
-//! Promised: `Span::grown` is the rule of growth, and the grown span holds the true time as long as the clock runs within its
+//! Promised: `Answer::grown` is the rule of growth, and the grown span holds the true time as long as the clock runs within its
 //! rate (`growth_holds`); a `Clock` that counts at a pace within the rate runs within it, however often its pace changes
 //! (`counting_runs`).
 #![tactic(auto)]

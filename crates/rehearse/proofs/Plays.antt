@@ -1,6 +1,7 @@
 -- The promise of every rehearsal: its moves are actions of its world, and turns of each of its clocks.
 use Rattle.std.proofs.Common.{◌≡◌, ℕ, ◌+◌, ◌-◌, ◌<◌, ◌≤◌, Bool, true, false, cond, ◌&&◌, eqb, ltb, leb, List, [], ◌∷◌, ◌++◌, map, length, get_or, take, set, replicate, is_ok, Ok, Err, sym, refl, ap, ◌∙◌, subst, inl, inr, append_assoc, append-nil, arith, length-set, get_or-set_other, get_or-set_same}
 use lib.ListN.{length-replicate, get_or-replicate}
+use Rattle.std.proofs.lemmas.List.Sums.{fold-append}
 use Rattle.std.proofs.lemmas.List.{length-map, get_or-map, take-replicate}
 use Rattle.std.proofs.lemmas.Bool.{cases_Bool, cases_eq, cond_both, cond-true, cond-false, and_parts, and_from, and_left, and_right, leb-true, eqb-true, eq-eqb, ne_eqb, lt-ltb}
 use Rattle.clocks.specs.Time.{million, highest, RunsFrom}
@@ -47,20 +48,10 @@ turns_of k v (m ∷ moves) = move_turns k v m ++ turns_of k (play v m) moves
 
 -- LISTS OF ACTIONS AND OF TURNS
 
-run_both : (w : WorldView) (xs ys : List Action) → run w (xs ++ ys) ≡ run (run w xs) ys
-unfolding run
-run_both w [] ys = refl
-run_both w (x ∷ xs) ys = run_both (step w x) xs ys
-
 reads_both : (k : ℕ) (c : ℕ → ℕ) (w : WorldView) (xs ys : List Action) → Reads k c w xs → Reads k c (run w xs) ys → Reads k c w (xs ++ ys)
-unfolding run
 reads_both k c w [] ys p q = q
 reads_both k c w (action.Pass by ∷ xs) ys p q = reads_both k c (step w (action.Pass by)) xs ys p q
 reads_both k c w (action.Input j clock i ∷ xs) ys p q = (p.0, reads_both k c (step w (action.Input j clock i)) xs ys p.1 q)
-
-turns_both : (ts us : List Turn) (x : Counting) → turns (ts ++ us) x ≡ turns us (turns ts x)
-turns_both [] us x = refl
-turns_both (t ∷ ts) us x = turns_both ts us (turn t x)
 
 elapsed_both : (ts us : List Turn) → elapsed (ts ++ us) ≡ elapsed ts + elapsed us
 elapsed_both [] us = omega arith
@@ -75,12 +66,11 @@ within_both rate (change x ∷ ts) us p q = (p.0, p.1, within_both rate ts us p.
 -- ONE MOVE, as actions of the world
 
 one_or_none : (b : Bool) (w : WorldView) (a : Action) (x y : RehearsalView) → x.world ≡ step w a → y.world ≡ w → run w (cond b (a ∷ []) []) ≡ (cond b x y).world
-unfolding run
 one_or_none true w a x y p q = sym p
 one_or_none false w a x y p q = sym q
 
 move_runs : (v : RehearsalView) (m : Move) → run v.world (move_actions v m) ≡ (play v m).world
-unfolding run move_actions
+unfolding move_actions
 move_runs v (passes by) =
     one_or_none (is_ok (pass_reply v by)) v.world (action.Pass by) (record { world = step v.world (action.Pass by); dials = map (turned (pass by)) v.dials }) v refl refl
 move_runs v (paces j d) = cond_both (can_pace v j d) _ v (λ x. v.world ≡ x.world) (λ e. refl) (λ e. refl)
@@ -114,7 +104,7 @@ module _ (k rate : ℕ) where
       record {
         here = (let n = length-map v.dials (turned (pass by)) in let h = a.here in omega arith);
         rates = ap (λ (x : Dial). x.rate) d ∙ a.rates;
-        counts = ap (λ (x : Dial). x.counting) d ∙ (ap (λ (x : Counting). turn (pass by) x) a.counts ∙ sym (turns_both ts (pass by ∷ []) fresh));
+        counts = ap (λ (x : Dial). x.counting) d ∙ (ap (λ (x : Counting). turn (pass by) x) a.counts ∙ sym (fold-append (λ k t. turn t k) fresh ts (pass by ∷ [])));
         time =
             (let s : (step v.world (action.Pass by)).now ≡ v.world.now + by = ap (λ (x : WorldView). x.now) (cond-true (leb (v.world.now + by) highest) _ v.world l) in
             let e = elapsed_both ts (pass by ∷ []) in let t = a.time in omega arith);
@@ -127,7 +117,7 @@ module _ (k rate : ℕ) where
       record {
         here = simp length-set a.here;
         rates = ap (λ (x : Dial). x.rate) d ∙ a.rates;
-        counts = ap (λ (x : Dial). x.counting) d ∙ (ap (λ (x : Counting). turn (change p) x) a.counts ∙ sym (turns_both ts (change p ∷ []) fresh));
+        counts = ap (λ (x : Dial). x.counting) d ∙ (ap (λ (x : Counting). turn (change p) x) a.counts ∙ sym (fold-append (λ k t. turn t k) fresh ts (change p ∷ [])));
         time = (let e = elapsed_both ts (change p ∷ []) in let t = a.time in omega arith);
       }
 
@@ -224,14 +214,14 @@ module _ (k rate : ℕ) where
       end : At (plays v moves) all
 
     over : (v : RehearsalView) (ts : List Turn) (moves : List Move) → all ≡ ts ++ turns_of k v moves → At v ts → Over v moves
-    unfolding actions_of turns_of plays run
+    unfolding actions_of turns_of
     over v ts [] e a = record { reads = tt; runs = refl; end = subst (At v) (sym (e ∙ append-nil ts)) a }
     over v ts (m ∷ moves) e a =
         let o = over (play v m) (ts ++ move_turns k v m) moves (e ∙ sym (append_assoc ts (move_turns k v m) (turns_of k (play v m) moves))) (moved v ts m a) in
         let w = move_runs v m in
         record {
           reads = reads_both k c v.world (move_actions v m) (actions_of (play v m) moves) (move_reads v ts (move_turns k v m ++ turns_of k (play v m) moves) m e a) (subst (λ x. Reads k c x (actions_of (play v m) moves)) (sym w) o.reads);
-          runs = run_both v.world (move_actions v m) (actions_of (play v m) moves) ∙ (ap (λ x. run x (actions_of (play v m) moves)) w ∙ o.runs);
+          runs = fold-append step v.world (move_actions v m) (actions_of (play v m) moves) ∙ (ap (λ x. run x (actions_of (play v m) moves)) w ∙ o.runs);
           end = o.end;
         }
 

@@ -1,5 +1,5 @@
 -- What is promised of every rehearsal.
-use Rattle.std.specs.Prelude.{◌≡◌, ℕ, ◌<◌, true, List, [], ◌∷◌}
+use Rattle.std.specs.Prelude.{◌≡◌, ℕ, ◌<◌, true, List, fold}
 use Rattle.clocks.specs.declared.counting.Drift.{Drift}
 use Rattle.votes.specs.declared.types.Setup.{Setup}
 use Rattle.world.specs.declared.actions.Input.{Input}
@@ -19,9 +19,8 @@ play v (passes by) = pass_after v by
 play v (paces machine drift) = pace_after v machine drift
 play v (inputs machine i) = input_after v machine i
 
-unfoldable pub plays : RehearsalView → List Move → RehearsalView
-plays v [] = v
-plays v (m ∷ moves) = plays (play v m) moves
+abbrev pub plays : RehearsalView → List Move → RehearsalView
+plays v moves = fold play v moves
 
 -- THE PROMISE OF EVERY REHEARSAL. Whatever its script: whenever at most f of a machine's time servers lie or haven't answered, the machine gives a span, and
 -- the true time is in it. Nothing is asked of its clock, since a rehearsal's clocks run within their error.

@@ -59,14 +59,12 @@ impl Rehearsal {
     pub(crate) fn new(heap: Global, machines: u64, setup: Setup) -> Result<Rehearsal, NotMade>
         ensures { MatchResult result (λ r. (can_open machines setup ≡ true) × (r ≡ opening machines setup)) (λ e. NotOpened machines setup e) }
     {
-        if machines > MACHINES as u64 {
-            return Err(NotMade::Invalid);
-        }
         // an array, so that there is no want of memory before the world itself tells what is wrong
         let setups = [setup; MACHINES];
-        let world = World::new(heap, &setups[..machines as usize])?;
+        let setups = setups.get(..machines as usize).ok_or(NotMade::Invalid)?;
+        let world = World::new(heap, setups)?;
         let rate = Rate::new(setup.rate).unwrap();
-        let clocks = fresh_clocks(heap, rate, machines as usize)?;
+        let clocks = fresh_clocks(heap, rate, setups.len())?;
         Ok(Rehearsal { world, clocks })
     }
 
@@ -139,6 +137,7 @@ impl Rehearsal {
 }
 
 /// The promise of every rehearsal.
+#[tactic(auto, using(crate::proofs::Plays::rehearsals_hold_lem))]
 pub fn rehearsals_hold()
     ensures { RehearsalsHold }
 {}

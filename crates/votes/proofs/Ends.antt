@@ -5,7 +5,8 @@ use mathlib.Core.List.{Memᴰ}
 use Rattle.std.proofs.lemmas.Bool.{cases_lt, cases_Bool, both_ways, and_parts, and_from, leb-true, le-leb, cond-true, cond-false}
 use Rattle.clocks.specs.declared.growth.Span.{Span}
 use Rattle.clocks.specs.Time.{covers, Holds}
-use Rattle.votes.specs.Counts.{vote, count, picked, end_step, low_end, high_end, lowest, highest}
+use Rattle.votes.specs.Counts.{count, picked, end_step, low_end, high_end, lowest, highest}
+use Rattle.votes.proofs.Steps.{vote, count-cons}
 
 pub holds_covers : (t : ℕ) (s : Span) → Holds s t → covers t s ≡ true
 holds_covers t s h = and_from (leb s.low t) (leb t s.high) (le-leb s.low t h.0) (le-leb t s.high h.1)
@@ -26,11 +27,12 @@ vote_holds t s h =
 
 -- where a time lies, another lies too
 pub count_mono : (t u : ℕ) (ss : List (Option Span)) → ((y : Span) → Memᴰ (Some y) ss → Holds y t → Holds y u) → count t ss ≤ count u ss
-unfolding count
 count_mono t u [] h = omega arith
-count_mono t u (None ∷ ss) h = omega (arith, count_mono t u ss (λ y m. h y (Memᴰ.tail m)))
+count_mono t u (None ∷ ss) h = omega (arith, count-cons t None ss, count-cons u None ss, count_mono t u ss (λ y m. h y (Memᴰ.tail m)))
 count_mono t u (Some s ∷ ss) h =
     let rest = count_mono t u ss (λ y m. h y (Memᴰ.tail m)) in
+    let a = count-cons t (Some s) ss in
+    let b = count-cons u (Some s) ss in
     elim (cases_Bool (covers t s)) [
       | inl e ↦ (let v = vote_in t s (covers_holds t s e) in let w = vote_in u s (h s (Memᴰ.head refl) (covers_holds t s e)) in omega arith)
       | inr e ↦ (let v = vote_out t s e in omega arith)
@@ -93,21 +95,19 @@ cases_zero zero = inl refl
 cases_zero (suc n) = inr (omega arith)
 
 pub counts_one : (t : ℕ) (ss : List (Option Span)) (y : Span) → Memᴰ (Some y) ss → Holds y t → 1 ≤ count t ss
-unfolding count
 counts_one t [] y m h = absurd (Memᴰ.not-nil m)
 counts_one t (s ∷ ss) y m h =
     elim (Memᴰ.cases_cons m) [
-      | inl e ↦ (let v : vote t s ≡ 1 = ap (vote t) (sym e) ∙ vote_in t y h in omega arith)
-      | inr n ↦ (let p = counts_one t ss y n h in omega arith)
+      | inl e ↦ (let v : vote t s ≡ 1 = ap (vote t) (sym e) ∙ vote_in t y h in omega (arith, count-cons t s ss))
+      | inr n ↦ omega (arith, count-cons t s ss, counts_one t ss y n h)
     ]
 
 module _ (t : ℕ) (le : Span → Span → Type 0) (same : (x : Span) → le x x) (trans : (x y z : Span) → le x y → le y z → le x z)
     (total : (x y : Span) → le x y ⊎ le y x) where
   pub top : (ss : List (Option Span)) → 1 ≤ count t ss → Top t le same trans total ss
-  unfolding count
   top [] h = absurd (let z : 1 ≤ 0 = h in omega arith)
   top (None ∷ ss) h =
-      passed_by t le same trans total None ss (λ y e k. let z : ◌≡◌ {A = ℕ} 0 1 = cc in omega arith) (top ss (omega arith))
+      passed_by t le same trans total None ss (λ y e k. let z : ◌≡◌ {A = ℕ} 0 1 = cc in omega arith) (top ss (omega (arith, count-cons t None ss)))
   top (Some s ∷ ss) h =
       elim (cases_Bool (covers t s)) [
         | inl e ↦
@@ -118,7 +118,7 @@ module _ (t : ℕ) (le : Span → Span → Type 0) (same : (x : Span) → le x x
         | inr e ↦
             passed_by t le same trans total (Some s) ss
             (λ y q k. let z : y ≡ s = cc in let b : covers t s ≡ true = subst (λ x. covers t x ≡ true) z (holds_covers t y k) in both_ways (covers t s) e b)
-            (top ss (let v : vote t (Some s) ≡ 0 = vote_out t s e in omega arith))
+            (top ss (omega (arith, vote_out t s e, count-cons t (Some s) ss)))
       ]
 
 -- a way to pick the better of two ends
@@ -144,7 +144,6 @@ module _ (end : Span → ℕ) (pick : ℕ → ℕ → ℕ) (le : ℕ → ℕ →
   found_head : (s : Span) (ss : List (Option Span)) → k ≤ count (end s) all → Found (Some s ∷ ss) (end s)
   found_head s ss h = record { span = s; member = Memᴰ.head refl; ends = refl; enough = h }
 
-  -- the better of what was found and one more
   -- one span more
   abbrev step : Option ℕ → Option Span → Option ℕ
   step best s = end_step end pick k all best s

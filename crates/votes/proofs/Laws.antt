@@ -9,10 +9,10 @@ use Rattle.clocks.specs.Time.{RunsFrom, Holds, highest as highest_time, grown_to
 use Rattle.clocks.proofs.Grows.{growth_holds_lem}
 use Rattle.votes.specs.declared.types.Exchange.{Exchange}
 use Rattle.votes.specs.declared.types.Refusal.TheVariants.{NoSpan}
-use Rattle.votes.specs.Counts.{vote, count, lowest, highest}
+use Rattle.votes.specs.Counts.{count, lowest, highest}
 use Rattle.votes.specs.Exchanges.{View, grown_answer, grown_exchange, spans_at, between, span_of, span_reply}
 use Rattle.votes.specs.Promise.{AllBut, none, good, faulty, Honest, servers_of, Outermost, Trusted, Witness, Lawful, NoVotes, SpanGiven}
-use Rattle.votes.proofs.Steps.{vote_short}
+use Rattle.votes.proofs.Steps.{vote, vote_short, count-cons}
 use Rattle.votes.proofs.Ends.{vote_in, vote_holds, low_found, high_found, low_best, high_best, low_at, high_at}
 
 -- what a span that is given tells of the two ends
@@ -33,25 +33,23 @@ both_given low high l h p q = cc
 -- of a list of which all but f elements vote for a time, at least all but f do; and where more than f do, one of the good does
 module _ {A : Type 0} (P : A → Type 0) (g : A → Option Span) (t : ℕ) (votes : (x : A) → P x → vote t (g x) ≡ 1) where
   enough : (f : ℕ) (xs : List A) → AllBut P f xs → length xs ≤ f + count t (map g xs)
-  unfolding count
   enough f [] none = omega arith
-  enough f (x ∷ xs) (good p rest) = let v = votes x p in let k = enough f xs rest in omega arith
-  enough (suc f) (x ∷ xs) (faulty rest) = let k = enough f xs rest in omega arith
+  enough f (x ∷ xs) (good p rest) = omega (arith, votes x p, enough f xs rest, count-cons t (g x) (map g xs))
+  enough (suc f) (x ∷ xs) (faulty rest) = omega (arith, enough f xs rest, count-cons t (g x) (map g xs))
 
   one_good : (u f : ℕ) (xs : List A) → AllBut P f xs → f < count u (map g xs) → (x : A) × Memᴰ x xs × P x × (1 ≤ vote u (g x))
-  unfolding count
   one_good u f [] none h = absurd (omega arith)
   one_good u f (x ∷ xs) (good p rest) h =
       elim (cases_lt 0 (vote u (g x))) [
         | inl v ↦ (x, Memᴰ.head refl, p, v)
-        | inr v ↦ (let r = one_good u f xs rest (omega arith) in (r.0, Memᴰ.tail r.1, r.2, r.3))
+        | inr v ↦ (let r = one_good u f xs rest (omega (arith, count-cons u (g x) (map g xs))) in (r.0, Memᴰ.tail r.1, r.2, r.3))
       ]
   one_good u (suc f) (x ∷ xs) (faulty rest) h =
-      let r = one_good u f xs rest (let s = vote_short u (g x) in omega arith) in (r.0, Memᴰ.tail r.1, r.2, r.3)
+      let r = one_good u f xs rest (omega (arith, vote_short u (g x), count-cons u (g x) (map g xs))) in (r.0, Memᴰ.tail r.1, r.2, r.3)
 
 -- a time lies in a span that votes for it
 voted : (t : ℕ) (o : Option Span) → 1 ≤ vote t o → (s : Span) × (o ≡ Some s) × Holds s t
-voted t None h = absurd (omega arith)
+voted t None h = absurd (let z : 1 ≤ 0 = h in omega arith)
 voted t (Some s) h = (s, refl, vote_holds t s h)
 
 -- the answer of an honest server, grown to now, holds the true time

@@ -1,19 +1,18 @@
 -- The lowest of the lower ends, and the highest of the upper ends, that lie in at least so many of some spans. A time server
 -- that hasn't answered has no span: it offers no end, and no time lies in it.
-use Rattle.std.specs.Prelude.{ℕ, ◌+◌, min, max, cond, List, [], ◌∷◌, fold, Some, None, Option, nat_le}
+use Rattle.std.specs.Prelude.{ℕ, min, max, Bool, false, cond, List, fold, count_by, Some, None, Option, nat_le}
 use Rattle.std.specs.Option.{option_map_or}
 use Rattle.clocks.specs.declared.growth.Span.{Span}
 use Rattle.clocks.specs.Time.{covers}
 
--- whether a time lies in a span, as a number
-abbrev pub vote : ℕ → Option Span → ℕ
-vote t None = 0
-vote t (Some s) = cond (covers t s) 1 0
+-- whether a time lies in a span, if there is one
+abbrev pub lies_in : ℕ → Option Span → Bool
+lies_in t None = false
+lies_in t (Some s) = covers t s
 
 -- how many of the spans a time lies in
-unfoldable pub count : ℕ → List (Option Span) → ℕ
-count t [] = 0
-count t (s ∷ ss) = vote t s + count t ss
+abbrev pub count : ℕ → List (Option Span) → ℕ
+count t ss = count_by (lies_in t) ss
 
 -- the best so far and one more, of which one is picked
 abbrev pub picked : (ℕ → ℕ → ℕ) → Option ℕ → ℕ → ℕ

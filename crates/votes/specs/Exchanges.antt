@@ -1,11 +1,11 @@
 -- A machine's exchanges with its time servers, and what each call answers and leaves behind.
-use Rattle.std.specs.Prelude.{ℕ, ◌+◌, ◌-◌, ◌*◌, ◌%◌, Bool, false, cond, ◌&&◌, List, map, take, replicate, is_ok, Some, None, Ok, Err, Option, Result, ◌==◌, nat_le, nat_lt, slice_index_or, slice_set}
+use Rattle.std.specs.Prelude.{◌≡◌, ℕ, ◌+◌, ◌-◌, ◌*◌, ◌%◌, ◌<◌, ◌≤◌, Bool, false, cond, ◌&&◌, List, length, map, take, replicate, is_ok, Some, None, Ok, Err, Option, Result, ◌==◌, nat_le, nat_lt, slice_index_or, slice_set}
 use Rattle.std.specs.Option.{ok_or, option_map, option_map_or}
+use Rattle.clocks.specs.declared.growth.Answer.{Answer}
 use Rattle.clocks.specs.declared.growth.Span.{Span}
 use Rattle.clocks.specs.Time.{grown_to}
 use Rattle.votes.specs.declared.types.Setup.{Setup}
 use Rattle.votes.specs.declared.types.Ask.{Ask}
-use Rattle.votes.specs.declared.types.Answer.{Answer}
 use Rattle.votes.specs.declared.types.Exchange.{Exchange}
 use Rattle.votes.specs.declared.types.Refusal.{Refusal}
 use Rattle.votes.specs.declared.types.Refusal.TheVariants.{Invalid, WrongNumber, NoSpan}
@@ -30,6 +30,13 @@ pub record View : Type 0 where
   pub first : ℕ
   pub latest : ℕ
   pub exchanges : List Exchange
+
+-- the numbers of a machine that can be made
+pub record IsInRange (v : View) : Type 0 where
+  pub rate : v.rate ≤ 1000
+  pub few : v.servers ≤ 16
+  pub minority : 2 * v.faulty < v.servers
+  pub sixteen : length v.exchanges ≡ 16
 
 -- before the first ask and answer
 abbrev pub blank : Exchange

@@ -1,9 +1,9 @@
 -- What is promised of a machine's span.
 use Rattle.std.specs.Prelude.{◌≡◌, ℕ, suc, ◌-◌, ◌*◌, ◌<◌, ◌≤◌, List, [], ◌∷◌, length, take, Some, Ok, Option}
 use mathlib.Core.List.{Memᴰ}
+use Rattle.clocks.specs.declared.growth.Answer.{Answer}
 use Rattle.clocks.specs.declared.growth.Span.{Span}
 use Rattle.clocks.specs.Time.{RunsFrom, Holds, highest}
-use Rattle.votes.specs.declared.types.Answer.{Answer}
 use Rattle.votes.specs.declared.types.Exchange.{Exchange}
 use Rattle.votes.specs.Counts.{count}
 use Rattle.votes.specs.Exchanges.{View, grown_exchange, spans_at, span_reply}

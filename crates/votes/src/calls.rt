@@ -1,14 +1,15 @@
 //! The calls on a machine's exchanges. A refusal changes nothing.
-ghost use Rattle.std.specs.Prelude.{◌≡◌, ◌-◌, ◌<◌, false, true, map, OnOk, OnErr, MatchOption, MatchResult};
-ghost use Rattle.votes.specs.Exchanges.{number_of, valid_setup, opened, next_number, ask_reply, ask_after, last_number, answer_reply, answer_after, grown_answer, grown_exchange, spans_at, span_of, span_reply, span_after};
+ghost use Rattle.std.specs.Prelude.{◌≡◌, ◌-◌, ◌<◌, IsTrue, false, true, map, OnOk, OnErr, MatchOption, MatchResult};
+ghost use Rattle.votes.specs.Exchanges.{number_of, valid_setup, opened, IsInRange, fits, next_number, ask_reply, ask_after, last_number, answer_reply, answer_after, grown_exchange, spans_at, span_of, span_reply, span_after};
 ghost use Rattle.votes.specs.Promise.{Lawful, NoVotes, SpanGiven};
 
 use crate::counts::outermost;
-use crate::types::{Answer, Ask, Exchange, Refusal, SERVERS, Setup, Votes};
-use clocks::growth::Span;
+use crate::types::{Ask, Exchange, Refusal, SERVERS, Setup, Votes};
+use clocks::growth::{Answer, Span};
 use clocks::rates::Rate;
 
 impl Refusal {
+    /// Its number in the lines and messages. Not `u8::from`, which would not say which number that is.
     pub fn number(self) -> u8
         ensures { result ≡ number_of self }
     {
@@ -24,16 +25,7 @@ impl Setup {
         self.servers <= SERVERS
             && self.faulty < SERVERS
             && 2 * self.faulty < self.servers
-            && self.rate <= 1000
-    }
-}
-
-impl Answer {
-    // What its span has grown to at a clock reading.
-    fn grown(self, rate: Rate, clock: u64) -> Span
-        ensures { result ≡ grown_answer rate clock self }
-    {
-        self.span.grown(rate, self.asked, self.answered, clock)
+            && Rate::new(self.rate).is_some()
     }
 }
 
@@ -61,18 +53,22 @@ impl Votes {
         if !setup.is_valid() {
             return None;
         }
-        let blank = Exchange {
-            ask: None,
-            known: None,
-        };
         Some(Votes {
             rate: Rate::new(setup.rate)?,
             servers: setup.servers,
             faulty: setup.faulty,
             first: setup.first,
             latest: 0,
-            exchanges: [blank; SERVERS],
+            exchanges: [Exchange::default(); SERVERS],
         })
+    }
+
+    // Is a time server there, and a clock reading not below an earlier one?
+    fn fits(&self, server: usize, clock: u64) -> bool
+        ensures value { result ≡ fits self.now server clock }
+        ensures there { IsTrue result → server < SERVERS }
+    {
+        server < self.servers && clock >= self.latest
     }
 
     /// Asks a time server: the number to send it.
@@ -82,7 +78,7 @@ impl Votes {
         ensures there { OnOk result (server < SERVERS) }
         ensures refused { OnErr result (self.new ≡ self.old) }
     {
-        if server >= self.servers || clock < self.latest {
+        if !self.fits(server, clock) {
             return Err(Refusal::Invalid);
         }
         let number = self.exchanges[server].next_number(self.first);
@@ -93,12 +89,11 @@ impl Votes {
 
     /// The number of the last ask of a time server, if it is there and was asked.
     pub fn last_ask(&self, server: usize) -> Option<u32>
-        ensures { result ≡ last_number self.now server }
+        ensures value { result ≡ last_number self.now server }
+        ensures ranges { IsInRange self.now }
     {
-        if server >= self.servers {
-            return None;
-        }
-        self.exchanges[server].ask.map(|ask| ask.number)
+        let exchange = self.exchanges[..self.servers].get(server)?;
+        exchange.ask.map(|ask| ask.number)
     }
 
     /// Takes an answer to the last ask of a time server.
@@ -114,7 +109,7 @@ impl Votes {
         ensures there { OnOk result (server < SERVERS) }
         ensures refused { OnErr result (self.new ≡ self.old) }
     {
-        if server >= self.servers || clock < self.latest || span.low > span.high {
+        if !self.fits(server, clock) || span.low > span.high {
             return Err(Refusal::Invalid);
         }
         let ask = self.exchanges[server].ask.ok_or(Refusal::WrongNumber)?;

@@ -41,7 +41,8 @@ impl Ends {
     }
 }
 
-// The lowest of the lower ends, and the highest of the upper ends, that lie in at least so many of the spans.
+// The lowest of the lower ends, and the highest of the upper ends, that lie in at least so many of the spans: a loop over the ends with
+// a count of the spans that each lies in, as the rule is told.
 pub(crate) fn outermost(spans: &[Option<Span>], enough: usize) -> Ends
     ensures low { result.low ≡ lowest enough spans.now }
     ensures high { result.high ≡ highest enough spans.now }

@@ -1,8 +1,8 @@
 //! The exchanges of a machine with its time servers. The calls stand in `calls`.
 ghost use Rattle.std.specs.Prelude.{◌≡◌, ◌*◌, ◌<◌, ◌≤◌, length};
-ghost use Rattle.votes.specs.Exchanges.{View};
+ghost use Rattle.votes.specs.Exchanges.{View, IsInRange};
 
-use clocks::growth::Span;
+use clocks::growth::Answer;
 use clocks::rates::Rate;
 use std::marker::Model;
 
@@ -26,17 +26,9 @@ pub struct Ask {
     pub clock: u64,
 }
 
-/// An answer of a time server: its span, what the clock showed at the ask that it answers, and what it showed when it came.
-#[derive(Clone, Copy, PartialEq, Eq, Debug)]
-pub struct Answer {
-    pub asked: u64,
-    pub answered: u64,
-    pub span: Span,
-}
-
 /// One time server's exchange with the machine: the last ask, and the last answer (which may be to an earlier ask). A server that hasn't
 /// answered since the machine came up counts as a span of no numbers.
-#[derive(Clone, Copy, PartialEq, Eq, Debug)]
+#[derive(Clone, Copy, PartialEq, Eq, Debug, Default)]
 pub struct Exchange {
     pub ask: Option<Ask>,
     pub known: Option<Answer>,
@@ -45,7 +37,8 @@ pub struct Exchange {
 /// Why a call was refused; nothing has changed then. Each case has its number.
 #[derive(Clone, Copy, PartialEq, Eq, Debug)]
 pub enum Refusal {
-    /// a time server that is not there, a lower end above the upper end, or a clock reading below an earlier one
+    /// a number out of range: a machine or a time server that is not there, a lower end above the upper end, a clock reading below
+    /// an earlier one, a time or a reading above the highest number, a pace above the clock's rate
     Invalid = 1,
     /// not the number of the last ask of that time server
     WrongNumber = 2,
@@ -56,6 +49,7 @@ pub enum Refusal {
 /// A machine's exchanges with its time servers.
 #[derive(Clone, Copy)]
 pub struct Votes {
+    // these four, and no `Setup`, whose numbers may be out of range
     pub(crate) rate: Rate,
     pub(crate) servers: usize,
     pub(crate) faulty: usize,
@@ -72,7 +66,7 @@ impl Model for Votes {
 
     ghost view = { λ v. record { rate = v.rate; servers = v.servers; faulty = v.faulty; first = v.first; latest = v.latest; exchanges = v.exchanges } };
 
-    ghost invariant = { λ v. (v.rate ≤ 1000) × (v.servers ≤ 16) × (2 * v.faulty < v.servers) × (length v.exchanges ≡ 16) };
+    ghost invariant = { λ v. IsInRange (record { rate = v.rate; servers = v.servers; faulty = v.faulty; first = v.first; latest = v.latest; exchanges = v.exchanges }) };
 
     ghost inverse = { λ v. record { rate = v.rate; servers = v.servers; faulty = v.faulty; first = v.first; latest = v.latest; exchanges = v.exchanges } };
 }

@@ -3,7 +3,7 @@ use Rattle.std.proofs.Common.{◌≡◌, ℕ, ◌*◌, ◌<◌, ◌≤◌, ◌�
 use lib.Seq.{set_out}
 use Rattle.std.proofs.lemmas.Bool.{cases_lt, cases_eq}
 use Rattle.votes.specs.declared.types.Ask.{Ask}
-use Rattle.votes.specs.declared.types.Answer.{Answer}
+use Rattle.clocks.specs.declared.growth.Answer.{Answer}
 use Rattle.votes.specs.declared.types.Exchange.{Exchange}
 use Rattle.votes.specs.Exchanges.{exchange, blank}
 use Rattle.world.specs.declared.machine.Moments.{Moments}

@@ -1,11 +1,12 @@
 -- The promise over every list of actions.
-use Rattle.std.proofs.Common.{◌≡◌, ℕ, zero, suc, ◌+◌, ◌*◌, ◌<◌, ◌≤◌, Bool, true, false, cond, ◌&&◌, ltb, leb, List, [], ◌∷◌, ◌++◌, map, length, get_or, take, drop, set, replicate, Ok, Err, Result, sym, refl, ap, ◌∙◌, subst, inl, inr, add-one, arith, length-set, drop-cons, get_or-set_other, get_or-set_same}
+use Rattle.std.proofs.Common.{◌≡◌, ℕ, zero, suc, ◌+◌, ◌*◌, ◌<◌, ◌≤◌, true, ◌&&◌, ltb, leb, List, [], ◌∷◌, ◌++◌, map, length, get_or, take, drop, set, replicate, Ok, Err, Result, sym, refl, ap, ◌∙◌, subst, inl, inr, add-one, arith, length-set, drop-cons, get_or-set_other, get_or-set_same}
 use mathlib.Core.Logic.{∥∥₁_elim}
 use denote.Struct.Props.{props}
 use Rattle.std.proofs.lemmas.List.{length-map, get_or-map}
-use Rattle.std.proofs.lemmas.Bool.{cases_Bool, both_ways, cases_eq, cond-true, leb-true, ltb-true, lt-ltb, and_parts}
+use Rattle.std.proofs.lemmas.Bool.{cases_Bool, both_ways, cases_eq, cond_both, cond-true, leb-true, ltb-true, lt-ltb, and_parts}
 use Rattle.std.specs.List.{range_with_len, list_all}
 use Rattle.std.proofs.lemmas.List.Folds.{list_all_at}
+use Rattle.std.proofs.lemmas.List.Sums.{fold-append}
 use Rattle.clocks.specs.declared.growth.Span.{Span}
 use Rattle.clocks.specs.Time.{RunsFrom, Holds, highest}
 use Rattle.votes.specs.declared.types.Exchange.{Exchange}
@@ -33,11 +34,6 @@ pub record Sound (w : WorldView) : Type 0 where
   pub machines : (k : ℕ) → k < length w.machines → SoundMachine w.now (machine_of w k)
 
 -- ONE ACTION
-
--- a property of worlds, kept by passing time and by an input to a machine that is there
-by_test : (P : WorldView → Type 0) (b : Bool) (v w : WorldView) → (b ≡ true → P v) → P w → P (cond b v w)
-by_test P true v w f p = f refl
-by_test P false v w f p = p
 
 passed : WorldView → ℕ → WorldView
 passed w by = record { now = w.now + by; machines = w.machines }
@@ -83,15 +79,15 @@ taken_sound w j clock i s h =
 pub step_sound : (w : WorldView) (a : Action) → Sound w → Sound (step w a)
 unfolding passed taken
 step_sound w (action.Pass by) s =
-    by_test Sound (leb (w.now + by) highest) (passed w by) w (λ e. passed_sound w by s (leb-true (w.now + by) highest e)) s
+    cond_both (leb (w.now + by) highest) (passed w by) w Sound (λ e. passed_sound w by s (leb-true (w.now + by) highest e)) (λ _. s)
 step_sound w (action.Input j clock i) s =
-    by_test Sound (ltb j (length w.machines)) (taken w j clock i) w (λ e. taken_sound w j clock i s (ltb-true j (length w.machines) e)) s
+    cond_both (ltb j (length w.machines)) (taken w j clock i) w Sound (λ e. taken_sound w j clock i s (ltb-true j (length w.machines) e)) (λ _. s)
 
 step_length : (w : WorldView) (a : Action) → length (step w a).machines ≡ length w.machines
 unfolding passed taken
-step_length w (action.Pass by) = by_test (λ x. length x.machines ≡ length w.machines) (leb (w.now + by) highest) (passed w by) w (λ e. refl) refl
+step_length w (action.Pass by) = cond_both (leb (w.now + by) highest) (passed w by) w (λ x. length x.machines ≡ length w.machines) (λ e. refl) (λ _. refl)
 step_length w (action.Input j clock i) =
-    by_test (λ x. length x.machines ≡ length w.machines) (ltb j (length w.machines)) (taken w j clock i) w (λ e. taken_length w j clock i) refl
+    cond_both (ltb j (length w.machines)) (taken w j clock i) w (λ x. length x.machines ≡ length w.machines) (λ e. taken_length w j clock i) (λ _. refl)
 
 -- a machine's rate stays
 rate_after : (m : Machine) (time clock : ℕ) (i : Input) → (machine_after m time clock i).votes.rate ≡ m.votes.rate
@@ -127,17 +123,16 @@ module _ (k : ℕ) (c : ℕ → ℕ) where
       }
 
   follows_run : (rate : ℕ) (w : WorldView) (actions : List Action) → Follows rate w → Reads k c w actions → Follows rate (run w actions)
-  unfolding run passed taken
+  unfolding passed taken
   follows_run rate w [] f r = f
   follows_run rate w (action.Pass by ∷ rest) f r =
       follows_run rate (step w (action.Pass by)) rest
-      (by_test (Follows rate) (leb (w.now + by) highest) (passed w by) w (λ e. follows_pass rate w by f (leb-true (w.now + by) highest e)) f) r
+      (cond_both (leb (w.now + by) highest) (passed w by) w (Follows rate) (λ e. follows_pass rate w by f (leb-true (w.now + by) highest e)) (λ _. f)) r
   follows_run rate w (action.Input j clock i ∷ rest) f r =
       follows_run rate (step w (action.Input j clock i)) rest
-      (by_test (Follows rate) (ltb j (length w.machines)) (taken w j clock i) w (λ e. follows_take rate w j clock i f r.0 (ltb-true j (length w.machines) e)) f) r.1
+      (cond_both (ltb j (length w.machines)) (taken w j clock i) w (Follows rate) (λ e. follows_take rate w j clock i f r.0 (ltb-true j (length w.machines) e)) (λ _. f)) r.1
 
 pub run_sound : (w : WorldView) (actions : List Action) → Sound w → Sound (run w actions)
-unfolding run
 run_sound w [] s = s
 run_sound w (a ∷ rest) s = run_sound (step w a) rest (step_sound w a s)
 
@@ -278,13 +273,7 @@ spans_hold_lem ss v actions k clock c h runs reads now few =
 
 -- A WORLD THAT SOME LIST OF ACTIONS LED TO
 
-run_more : (w : WorldView) (actions : List Action) (a : Action) → run w (actions ++ (a ∷ [])) ≡ step (run w actions) a
-unfolding run
-run_more w [] a = refl
-run_more w (b ∷ rest) a = run_more (step w b) rest a
-
 pub reached_start : (ss : List Setup) (w : WorldView) → valid ss ≡ true → w ≡ start ss → Reached w
-unfolding run
 reached_start ss w v e = record { setups = ss; actions = []; made = v; leads = e }
 
 pub reached_more : (v w : WorldView) (a : Action) → w ≡ step v a → Reached v → Reached w
@@ -293,7 +282,7 @@ reached_more v w a e r =
       setups = r.setups;
       actions = r.actions ++ (a ∷ []);
       made = r.made;
-      leads = e ∙ (ap (λ x. step x a) r.leads ∙ sym (run_more (start r.setups) r.actions a));
+      leads = e ∙ (ap (λ x. step x a) r.leads ∙ sym (fold-append step (start r.setups) r.actions (a ∷ [])));
     }
 
 given_prop : (r : Result Reply Refusal) (t : ℕ) → IsProp (Given r t)

@@ -4,7 +4,7 @@ use Rattle.std.specs.List.{range_with_len}
 use Rattle.clocks.specs.Time.{RunsFrom, Holds}
 use Rattle.votes.specs.declared.types.Setup.{Setup}
 use Rattle.votes.specs.declared.types.Ask.{Ask}
-use Rattle.votes.specs.declared.types.Answer.{Answer}
+use Rattle.clocks.specs.declared.growth.Answer.{Answer}
 use Rattle.votes.specs.declared.types.Refusal.{Refusal}
 use Rattle.votes.specs.Exchanges.{exchange}
 use Rattle.votes.specs.Promise.{AllBut}

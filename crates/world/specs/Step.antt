@@ -1,5 +1,5 @@
 -- What one action does to a world, as total functions on its view.
-use Rattle.std.specs.Prelude.{◌≡◌, ℕ, ◌+◌, Bool, true, false, cond, ◌&&◌, List, [], ◌∷◌, map, length, replicate, is_ok, None, Ok, Err, Option, Result, nat_le, nat_lt, slice_index_or, slice_set}
+use Rattle.std.specs.Prelude.{◌≡◌, ℕ, ◌+◌, Bool, true, false, cond, ◌&&◌, List, [], fold, map, length, replicate, is_ok, None, Ok, Err, Option, Result, nat_le, nat_lt, slice_index_or, slice_set}
 use Rattle.std.specs.List.{list_all}
 use Rattle.clocks.specs.declared.growth.Span.{Span}
 use Rattle.clocks.specs.Time.{highest}
@@ -108,6 +108,5 @@ step w (action.Input k clock i) =
     cond (nat_lt k (length w.machines)) (record { now = w.now; machines = slice_set w.machines k (machine_after (machine_of w k) w.now clock i) }) w
 
 -- a list of actions, one after another
-unfoldable pub run : WorldView → List Action → WorldView
-run w [] = w
-run w (a ∷ rest) = run (step w a) rest
+abbrev pub run : WorldView → List Action → WorldView
+run w actions = fold step w actions

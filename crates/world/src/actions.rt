@@ -10,6 +10,7 @@ use std::alloc::{AllocError, AllocFailed};
 #[derive(Clone, Copy, PartialEq, Eq, Debug)]
 pub enum Input {
     Ask(usize),
+    // no struct of the three, since every call takes them apart at once
     Answer(usize, u32, Span),
     Span,
 }
@@ -57,6 +58,7 @@ impl<T: Drop> From<AllocFailed<T>> for NotMade {
 }
 
 impl NotMade {
+    /// Its number in the lines and messages, as `votes::types::Refusal::number`.
     pub fn number(self) -> u8
         ensures { result ≡ number_of self }
     {

@@ -10,7 +10,7 @@ use clocks::growth::Span;
 use votes::types::{Refusal, SERVERS, Setup, Votes};
 
 /// The true times of one time server's exchange: of the last ask, of the ask that the last answer was to, and of that answer.
-#[derive(Clone, Copy, PartialEq, Eq, Debug)]
+#[derive(Clone, Copy, PartialEq, Eq, Debug, Default)]
 pub struct Moments {
     pub asked: u64,
     pub begun: u64,
@@ -38,14 +38,9 @@ impl Machine {
     pub(crate) fn new(setup: Setup) -> Option<Machine>
         ensures { MatchOption result (valid_setup setup ≡ false) (λ m. (valid_setup setup ≡ true) × (m ≡ made setup)) }
     {
-        let never = Moments {
-            asked: 0,
-            begun: 0,
-            answered: 0,
-        };
         Some(Machine {
             votes: Votes::new(setup)?,
-            moments: [never; SERVERS],
+            moments: [Moments::default(); SERVERS],
             looked: 0,
         })
     }

@@ -1,6 +1,6 @@
 //! The calls of a world.
-ghost use Rattle.std.specs.Prelude.{◌≡◌, true, OnErr, MatchResult};
-ghost use Rattle.world.specs.Promise.{SpanTrue, SpansHold};
+ghost use Rattle.std.specs.Prelude.{◌≡◌, true, IfOk, OnErr, MatchResult};
+ghost use Rattle.world.specs.Promise.{Reached, SpanTrue, SpansHold};
 ghost use Rattle.world.specs.Step.{valid, Refused, start, last_ask, reply_of, step};
 
 use crate::actions::{Action, NotMade, Reply};
@@ -13,14 +13,16 @@ impl World {
     // The world of a stage that nothing has happened on: no action led to it.
     fn at_start(setups: &[Setup], stage: Stage) -> World
         requires { (valid setups.now ≡ true) × (stage ≡ start setups.now) }
-        ensures { result ≡ stage }
+        ensures value { result ≡ stage }
+        ensures reached { ∥ Reached result ∥₁ }
     {
         World { stage }
     }
 
     /// A world of 1 to 8 machines, at true time 0, or why there is none.
     pub fn new(heap: Global, setups: &[Setup]) -> Result<World, NotMade>
-        ensures { MatchResult result (λ w. (valid setups.now ≡ true) × (w ≡ start setups.now)) (λ e. Refused setups.now e) }
+        ensures made { MatchResult result (λ w. (valid setups.now ≡ true) × (w ≡ start setups.now)) (λ e. Refused setups.now e) }
+        ensures reached { IfOk result (λ w. ∥ Reached w ∥₁) }
     {
         let stage = Stage::new(heap, setups)?;
         Ok(World::at_start(setups, stage))
@@ -46,6 +48,7 @@ impl World {
         ensures after { self.new ≡ step self.old action }
         ensures refused { OnErr result (self.new ≡ self.old) }
         ensures promise { SpanTrue self.old action result }
+        ensures reached { ∥ Reached self.new ∥₁ }
     {
         self.stage.act(action)
     }
@@ -56,12 +59,14 @@ impl World {
         ensures after { self.new ≡ step self.old action }
         ensures refused { OnErr result (self.new ≡ self.old) }
         ensures promise { SpanTrue self.old action result }
+        ensures reached { ∥ Reached self.new ∥₁ }
     {
         self.act(action)
     }
 }
 
 /// The promise over every list of actions.
+#[tactic(auto, using(crate::proofs::Worlds::spans_hold_lem))]
 pub fn spans_hold()
     ensures { SpansHold }
 {}

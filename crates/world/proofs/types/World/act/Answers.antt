@@ -11,3 +11,6 @@ pub returns-clause-promise : goal.returns-clause-promise
 returns-clause-promise c =
     subst (λ w. SpanTrue w c.args.action c.act.result) c.self.view_is
     (reached_true c.self.inside.stage c.args.action c.act.result c.self.invariant c.act.ensures.reply)
+
+pub returns-clause-reached : goal.returns-clause-reached
+returns-clause-reached c = ∥∥₁_map c.self.invariant (reached_more c.self.inside.stage c.act.new.self c.args.action c.act.ensures.after)
