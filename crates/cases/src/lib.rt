@@ -6,7 +6,7 @@
 
 ghost use Rattle.std.specs.Prelude.{◌≡◌};
 ghost use Rattle.cases.specs.Met.{PremisesMet};
-ghost use Rattle.cases.specs.Table.{all_cases, setup_of, setup_with, plays_of, EveryRow};
+ghost use Rattle.cases.specs.Table.{all_cases, setup_of, plays_of, EveryRow};
 
 use clocks::growth::Span;
 use votes::types::{Refusal, Setup};
@@ -274,23 +274,36 @@ pub fn setup(case: Case) -> Setup
     ensures { result ≡ setup_of case }
 {
     match case {
-        Case::A => made(1, 0, 0, 1),
-        Case::B => made(3, 1, 0, 1),
-        Case::Stays => made(1, 0, 0, 1),
-        Case::Wraps => made(1, 0, 0, 4294967295),
-        Case::Refuses => made(2, 0, 1000, 1),
-        Case::Ends => made(1, 0, 1000, 1),
-    }
-}
-
-fn made(servers: usize, faulty: usize, rate: u64, first: u32) -> Setup
-    ensures { result ≡ setup_with servers faulty rate first }
-{
-    Setup {
-        servers,
-        faulty,
-        rate,
-        first,
+        Case::A | Case::Stays => Setup {
+            servers: 1,
+            faulty: 0,
+            rate: 0,
+            first: 1,
+        },
+        Case::B => Setup {
+            servers: 3,
+            faulty: 1,
+            rate: 0,
+            first: 1,
+        },
+        Case::Wraps => Setup {
+            servers: 1,
+            faulty: 0,
+            rate: 0,
+            first: 4294967295,
+        },
+        Case::Refuses => Setup {
+            servers: 2,
+            faulty: 0,
+            rate: 1000,
+            first: 1,
+        },
+        Case::Ends => Setup {
+            servers: 1,
+            faulty: 0,
+            rate: 1000,
+            first: 1,
+        },
     }
 }
 

@@ -29,7 +29,8 @@ fn refused(refusal: Refusal) -> Said
     Said::refused(refusal.number())
 }
 
-// What is said where nothing was refused: a span, or that it was done.
+// What is said where nothing was refused: a span, or that it was done. Not a `From`, which may not stand here between types of two
+// other crates.
 fn said(reply: actions::Reply) -> Said
     ensures { result ≡ said_of reply }
 {
