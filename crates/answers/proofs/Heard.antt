@@ -1,6 +1,6 @@
 -- What is written of an answer reads back as it.
 use Rattle.std.proofs.Common.{◌≡◌, ℕ, ◌^◌, ◌<◌, Bool, true, ◌&&◌, leb, List, [], ◌∷◌, ◌++◌, length, Some, codes, decimal, refl, ap, ◌∙◌, arith, lit<}
-use Rattle.std.specs.Option.{option_map}
+use Rattle.std.specs.Option.{option_map, option_and_then}
 use Rattle.std.specs.Char.{is_ascii_digit}
 use Rattle.std.specs.List.{AllByRecursion}
 use Rattle.std.specs.Str.{all_ascii_digits}
@@ -8,9 +8,9 @@ use Rattle.std.proofs.ByRecursion.{All-append}
 use Rattle.std.proofs.lemmas.Bool.{and_parts, both_ways, leb-true}
 use Rattle.words.specs.Laws.{Whole}
 use Rattle.words.specs.Numbers.{number_of, plain}
-use Rattle.words.specs.Words.{spaced, joined}
+use Rattle.words.specs.Words.{joined}
 use Rattle.words.proofs.Joins.{joined_words}
-use Rattle.words.proofs.Plainly.{then_at, plain_number, one_complete, two_complete}
+use Rattle.words.proofs.Plainly.{plain_number, one_complete, two_complete}
 use Rattle.words.proofs.Writes.{numbers_read_back_lem, decimal_digits}
 use Rattle.answers.specs.declared.Said.{Said}
 use Rattle.answers.specs.declared.Said.TheVariants.{Ok, Number, Span}
@@ -37,7 +37,7 @@ before_colon_lem (b ∷ []) = refl
 before_colon_lem (b ∷ c ∷ w) = ap (option_map (λ x. b ∷ x)) (before_colon_lem (c ∷ w))
 
 time_back : (time : ℕ) → time < 2 ^ 64 → time_of (stamped time) ≡ Some time
-time_back time h = then_at (before_colon (stamped time)) number_of (decimal time) (before_colon_lem (decimal time)) ∙ numbers_read_back_lem time h
+time_back time h = ap (option_and_then number_of) (before_colon_lem (decimal time)) ∙ numbers_read_back_lem time h
 
 -- the whole answer, from its words
 plain_back : (said : Said) → reply_of (said_words said) ≡ option_map Plain (said_of (said_words said))
@@ -112,13 +112,10 @@ one_line : (w : List ℕ) → Clear w → OneLine w
 one_line [] h = tt
 one_line (b ∷ bs) h = (h.0.1, one_line bs h.1)
 
-spaced_line : (ws : List (List ℕ)) → AllByRecursion Clear ws → OneLine (spaced ws)
-spaced_line [] h = tt
-spaced_line (w ∷ ws) h = ((λ s. omega arith), All-append (λ b. b ≡ 10 → ⊥) w (spaced ws) (one_line w h.0) (spaced_line ws h.1))
-
 joined_line : (ws : List (List ℕ)) → AllByRecursion Clear ws → OneLine (joined ws)
 joined_line [] h = tt
-joined_line (w ∷ ws) h = All-append (λ b. b ≡ 10 → ⊥) w (spaced ws) (one_line w h.0) (spaced_line ws h.1)
+joined_line (w ∷ []) h = one_line w h.0
+joined_line (w ∷ v ∷ ws) h = All-append (λ b. b ≡ 10 → ⊥) w (32 ∷ joined (v ∷ ws)) (one_line w h.0) ((λ s. omega arith), joined_line (v ∷ ws) h.1)
 
 some_said : (said : Said) → 0 < length (said_words said)
 some_said Ok = lit< tt

@@ -1,9 +1,9 @@
 -- Answers, read back from their words.
 use Rattle.std.specs.Prelude.{◌≡◌, ℕ, ◌^◌, ◌<◌, cond, List, [], ◌∷◌, Some, None, codes, Option, ◌==◌, ◌≢◌}
-use Rattle.std.specs.Option.{option_map}
+use Rattle.std.specs.Option.{option_map, option_and_then}
 use Rattle.std.specs.List.{AllByRecursion}
 use Rattle.std.specs.Str.{bytes_eq}
-use Rattle.words.specs.Numbers.{number_of, then, one_of, two_of}
+use Rattle.words.specs.Numbers.{number_of, one_of, two_of}
 use Rattle.words.specs.Words.{words_of, joined}
 use Rattle.answers.specs.declared.Said.{Said}
 use Rattle.answers.specs.declared.Said.TheVariants.{Ok, Number, Span}
@@ -31,7 +31,7 @@ before_colon (b ∷ c ∷ bs) = option_map (λ w. b ∷ w) (before_colon (c ∷ 
 
 -- the time that a word with a colon behind it is
 abbrev pub time_of : List ℕ → Option ℕ
-time_of w = then (before_colon w) number_of
+time_of w = option_and_then number_of (before_colon w)
 
 -- an answer: what is said, behind a time or not, and then behind a machine's number or not
 abbrev pub from_machine : ℕ → Option ℕ → List ℕ → List (List ℕ) → Option Reply

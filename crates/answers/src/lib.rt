@@ -3,19 +3,20 @@
 //! What is said is `ok`, a refusal `number N` or a span `span L U`. It stands alone, or behind the true time, a colon and a space, and
 //! then a machine's number and a space where it is a machine that answers; a newline ends the line.
 //!
-//! Every call appends exactly the bytes that the definitions in `specs/` say, or leaves `out` as it was where memory is wanting, and
-//! asks nothing of its caller. Each answer is one line, and its words read back as the answer that they were written from.
+//! No call asks anything of its caller. One that writes appends exactly the bytes that the definitions in `specs/` say, or leaves `out`
+//! as it was where memory is wanting. Each answer is one line, and its words read back as the answer that they were written from.
 //!
-//! What is written of an answer is its `Display`. The text is made first and appended whole.
+//! What is written of an answer is its `Display`.
 #![tactic(auto)]
 
-ghost use Rattle.std.specs.Prelude.{◌≡◌, ◌++◌, is_ok, if◌then◌else◌, IfSome, Some, decimal};
+ghost use Rattle.std.specs.Prelude.{◌≡◌, ◌++◌, is_ok, if◌then◌else◌, Some, decimal};
 ghost use Rattle.answers.specs.Answers.{reply_words, said_words, spoken};
 ghost use Rattle.answers.specs.Hears.{ReadsBack};
 ghost use Rattle.words.specs.Numbers.{number_of};
 ghost use Rattle.words.specs.Words.{joined};
 
 use clocks::growth::Span;
+use itoa::Buffer;
 use std::alloc::AllocError;
 use std::fmt;
 
@@ -73,21 +74,13 @@ impl fmt::Display for Reply {
     }
 }
 
-// Appends what `{}` writes of a value. The text is made first, since no contract says what a `write!` that fails leaves in `out`.
-fn put<D: fmt::Display + Drop>(out: &mut Vec<u8>, value: D) -> Result<(), AllocError>
-    ensures { IfSome (D.output value) (λ text. out.new.items ≡ (if is_ok result then out.old.items ++ text else out.old.items)) }
-{
-    let text = value.to_string(*out.allocator())?;
-    out.extend_from_slice(text.as_bytes())
-}
-
 /// Appends a number in decimal, with no zeros in front. Where memory is wanting, `out` is as it was.
 #[tactic(auto, using(words::proofs::Writes::numbers_read_back_lem))]
 pub fn put_number(out: &mut Vec<u8>, n: u64) -> Result<(), AllocError>
     ensures items { out.new.items ≡ (if is_ok result then out.old.items ++ decimal n else out.old.items) }
     ensures reads { number_of (decimal n) ≡ Some n }
 {
-    put(out, n)
+    out.extend_from_slice(Buffer::new().format(n).as_bytes())
 }
 
 /// Appends a word. Where memory is wanting, `out` is as it was.
@@ -103,7 +96,9 @@ pub fn put_reply(out: &mut Vec<u8>, reply: Reply) -> Result<(), AllocError>
     ensures items { out.new.items ≡ (if is_ok result then out.old.items ++ spoken reply else out.old.items) }
     ensures reads { ReadsBack reply }
 {
-    put(out, format_args!("{reply}\n"))
+    // made first and appended whole, since no contract says what a `write!` that fails leaves in `out`
+    let line = format!(in *out.allocator(); "{reply}\n")?;
+    out.extend_from_slice(line.as_bytes())
 }
 
 #[cfg(test)]

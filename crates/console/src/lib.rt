@@ -58,7 +58,8 @@ pub fn serve<R: Read + Drop, W: Write, P: Program>(
     let mut input = BufReader::new(heap, input)?;
     let mut line = Vec::new(heap);
     let mut out = Vec::new(heap);
-    // a bound that no input reaches, since every loop has to end
+    // The bound is one that no input reaches, since every loop has to end. `input.split(..)` would hold `input`, whose buffer tells
+    // whether a whole line is at hand.
     for _ in 0..u64::MAX {
         line.clear();
         let read = input
@@ -104,7 +105,7 @@ mod tests {
 
     impl Program for Stars {
         fn answer(&mut self, line: &[u8], out: &mut Vec<u8>) -> Result<(), AllocError> {
-            for _ in 0..line.len() {
+            for _ in line {
                 out.push(b'*')?;
             }
             out.push(b'\n')?;

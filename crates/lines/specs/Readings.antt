@@ -1,6 +1,6 @@
 -- How words are read as a keyword and numbers, whatever request they make.
 use Rattle.std.specs.Prelude.{slice_index}
-use Rattle.std.proofs.Common.{◌≡◌, ℕ, zero, suc, ◌<◌, Bool, true, false, cond, List, [], ◌∷◌, map, length, Some, None, decimal, Option, sym, refl, ap, ◌∙◌, subst, arith}
+use Rattle.std.proofs.Common.{◌≡◌, ℕ, zero, suc, ◌<◌, Bool, true, false, cond, List, [], ◌∷◌, map, length, Some, decimal, Option, sym, refl, ap, ◌∙◌, subst, arith}
 use Rattle.std.specs.Option.{option_map}
 use Rattle.std.specs.Str.{bytes_eq}
 use Rattle.std.proofs.lemmas.Slice.Eq.{bytes_eq-Decides}
@@ -14,9 +14,6 @@ pick false x y q P f g e = g e
 
 pub keyed : (k key : List ℕ) → bytes_eq k key ≡ true → k ≡ key
 keyed k key t = (bytes_eq-Decides k key).0 t
-
-pub none : {X : Type 0} {P : Type 0} (q : X) → ◌≡◌ {A = Option X} None (Some q) → P
-none q e = absurd (let z : ◌≡◌ {A = ℕ} 0 1 = cc in omega arith)
 
 -- no words are those of no request
 pub no_words : {P : Type 0} (ws : List (List ℕ)) → 0 < length ws → [] ≡ ws → P

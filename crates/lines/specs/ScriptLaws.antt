@@ -1,21 +1,22 @@
 -- Requests to the program `rehearse`, written and read.
 use Rattle.std.specs.Prelude.{slice_index}
 use Rattle.std.proofs.Common.{◌≡◌, ℕ, ◌^◌, ◌<◌, false, List, [], ◌∷◌, map, length, Some, None, codes, decimal, sym, refl, ap, ◌∙◌, subst, arith, lit<}
-use Rattle.std.specs.Option.{option_map}
+use Rattle.std.specs.Option.{option_map, option_and_then}
 use Rattle.std.specs.List.{AllByRecursion}
 use Rattle.std.specs.Str.{bytes_eq}
-use Rattle.words.specs.Numbers.{number_of, plain, then, one_of}
+use Rattle.words.specs.Numbers.{number_of, plain, one_of}
+use Rattle.std.proofs.lemmas.Option.{none-some, option_and_then_some}
 use Rattle.words.specs.Words.{joined}
 use Rattle.words.proofs.Joins.{joined_words}
 use Rattle.words.proofs.Good.{Good, all_same, all_whole, good_key, good_decimal}
-use Rattle.words.proofs.Plainly.{mapped_some, then_some, then_at, number_fits, plain_number, number_plain, one_sound, one_complete, key_plain, numbers_complete}
+use Rattle.words.proofs.Plainly.{mapped_some, number_fits, plain_number, number_plain, one_sound, one_complete, key_plain, numbers_complete}
 use Rattle.clocks.specs.declared.counting.Drift.{Drift}
 use Rattle.clocks.specs.declared.counting.Drift.TheVariants.{Fast, Slow}
 use Rattle.lines.specs.declared.scripts.ScriptRequest.{ScriptRequest}
 use Rattle.lines.specs.declared.scripts.ScriptRequest.TheVariants.{World, Pass, Clock, Ask, Answer, Honest, Span}
 use Rattle.lines.specs.Lines.{skipped, RequestLaws}
 use Rattle.lines.specs.Scripts.{world_of, pass_of, drift_of, drift_words, clock_of, ask_of, answer_of, honest_of, span_of, script_request, script_words, parts_of, ScriptFits}
-use Rattle.lines.specs.Readings.{Reads, pick, keyed, none, read_numbers, no_words}
+use Rattle.lines.specs.Readings.{Reads, pick, keyed, read_numbers, no_words}
 
 abbrev ScriptReads : List (List ℕ) → ScriptRequest → Type 0
 ScriptReads ws q = Reads script_words ScriptFits ws q
@@ -30,34 +31,34 @@ drift_sound way n d e =
     (λ t is. let same : Fast n ≡ d = cc in subst (Run way n) same (refl, λ i. plain (keyed way (codes "fast") t i) ∷ decimal n ∷ []))
     (λ e. pick (bytes_eq way (codes "slow")) (Some (Slow n)) None d (Run way n d)
     (λ t is. let same : Slow n ≡ d = cc in subst (Run way n) same (refl, λ i. plain (keyed way (codes "slow") t i) ∷ decimal n ∷ []))
-    (none d) e) e
+    (λ e. absurd (none-some d e)) e) e
 
 -- a clock's line
 clock_sound : (ws : List (List ℕ)) (q : ScriptRequest) → clock_of ws ≡ Some q → ScriptReads (codes "clock" ∷ ws) q
-clock_sound [] q e = none q e
-clock_sound (h ∷ []) q e = none q e
+clock_sound [] q e = absurd (none-some q e)
+clock_sound (h ∷ []) q e = absurd (none-some q e)
 clock_sound (h ∷ way ∷ ws) q e =
-    let s = then_some (number_of h) (λ m. then (one_of ws) (λ n. option_map (Clock m) (drift_of way n))) q e in
-    let t = then_some (one_of ws) (λ n. option_map (Clock s.0) (drift_of way n)) q s.2 in
-    let m = mapped_some (Clock s.0) (drift_of way t.0) q t.2 in
-    let d = drift_sound way t.0 m.0 m.1 in
-    let o = one_sound ws t.0 t.1 in
-    subst (ScriptReads (codes "clock" ∷ h ∷ way ∷ ws)) m.2
-    ((number_fits h s.0 s.1, omega (arith, o.1, d.0)), (λ i. codes "clock" ∷ plain_number h s.0 s.1 i ∷ plain way ∷ o.0 i) ∙ ap (λ vs. codes "clock" ∷ decimal s.0 ∷ vs) d.1)
+    option_and_then_some (λ m. option_and_then (λ n. option_map (Clock m) (drift_of way n)) (one_of ws)) (number_of h) q e (λ m is f.
+    option_and_then_some (λ n. option_map (Clock m) (drift_of way n)) (one_of ws) q f (λ n one g.
+    let r = mapped_some (Clock m) (drift_of way n) q g in
+    let d = drift_sound way n r.0 r.1 in
+    let o = one_sound ws n one in
+    subst (ScriptReads (codes "clock" ∷ h ∷ way ∷ ws)) r.2
+    ((number_fits h m is, omega (arith, o.1, d.0)), (λ i. codes "clock" ∷ plain_number h m is i ∷ plain way ∷ o.0 i) ∙ ap (λ vs. codes "clock" ∷ decimal m ∷ vs) d.1)))
 
 clock_words : (h way : List ℕ) (ws : List (List ℕ)) (m n : ℕ) → m < 2 ^ 64 → n < 2 ^ 64 → plain h ≡ decimal m → map plain ws ≡ decimal n ∷ [] → clock_of (h ∷ way ∷ ws) ≡ option_map (Clock m) (drift_of way n)
 clock_words h way ws m n f g e d =
-    then_at (number_of h) (λ m. then (one_of ws) (λ n. option_map (Clock m) (drift_of way n))) m (number_plain h m f e) ∙ then_at (one_of ws) (λ n. option_map (Clock m) (drift_of way n)) n (one_complete ws n g d)
+    ap (option_and_then (λ m. option_and_then (λ n. option_map (Clock m) (drift_of way n)) (one_of ws))) (number_plain h m f e) ∙ ap (option_and_then (λ n. option_map (Clock m) (drift_of way n))) (one_complete ws n g d)
 
 clock_complete : (ws : List (List ℕ)) (m : ℕ) (d : Drift) → m < 2 ^ 64 → parts_of d < 2 ^ 64 → map plain ws ≡ decimal m ∷ drift_words d → clock_of ws ≡ Some (Clock m d)
-clock_complete [] m d f g e = absurd (let z : ◌≡◌ {A = ℕ} 0 1 = cc in omega arith)
-clock_complete (h ∷ []) m (Fast n) f g e = absurd (let z : ◌≡◌ {A = ℕ} 0 1 = cc in omega arith)
-clock_complete (h ∷ []) m (Slow n) f g e = absurd (let z : ◌≡◌ {A = ℕ} 0 1 = cc in omega arith)
+clock_complete [] m d f g e = absurd (omega (arith, ap length e))
+clock_complete (h ∷ []) m (Fast n) f g e = absurd (omega (arith, ap length e))
+clock_complete (h ∷ []) m (Slow n) f g e = absurd (omega (arith, ap length e))
 clock_complete (h ∷ way ∷ ws) m (Fast n) f g e = clock_words h way ws m n f g (cc) (cc) ∙ ap (λ w. option_map (Clock m) (drift_of w n)) (key_plain way (codes "fast") refl (cc))
 clock_complete (h ∷ way ∷ ws) m (Slow n) f g e = clock_words h way ws m n f g (cc) (cc) ∙ ap (λ w. option_map (Clock m) (drift_of w n)) (key_plain way (codes "slow") refl (cc))
 
 sound : (ws : List (List ℕ)) (q : ScriptRequest) → script_request ws ≡ Some q → ScriptReads ws q
-sound [] q e = none q e
+sound [] q e = absurd (none-some q e)
 sound (k ∷ ws) q e =
     pick (bytes_eq k (codes "world")) (world_of ws) _ q (ScriptReads (k ∷ ws) q)
     (λ t h. read_numbers script_words ScriptFits 4 (λ ns. World (slice_index ns 0) (slice_index ns 1) (slice_index ns 2) (slice_index ns 3)) (codes "world") refl (λ ns. refl) (λ ns h. (h.0, h.1.0, h.1.1.0, h.1.1.1.0)) k ws q (keyed k (codes "world") t) h)
@@ -73,7 +74,7 @@ sound (k ∷ ws) q e =
     (λ t h. read_numbers script_words ScriptFits 4 (λ ns. Honest (slice_index ns 0) (slice_index ns 1) (slice_index ns 2) (slice_index ns 3)) (codes "honest") refl (λ ns. refl) (λ ns h. (h.0, h.1.0, h.1.1.0, h.1.1.1.0)) k ws q (keyed k (codes "honest") t) h)
     (λ e. pick (bytes_eq k (codes "span")) (span_of ws) None q (ScriptReads (k ∷ ws) q)
     (λ t h. read_numbers script_words ScriptFits 1 (λ ns. Span (slice_index ns 0)) (codes "span") refl (λ ns. refl) (λ ns h. h.0) k ws q (keyed k (codes "span") t) h)
-    (none q) e) e) e) e) e) e) e
+    (λ e. absurd (none-some q e)) e) e) e) e) e) e) e
 
 some : (q : ScriptRequest) → 0 < length (script_words q)
 some (World a b c d) = lit< tt

@@ -1,12 +1,12 @@
 -- The lines of the program `rehearse`: a keyword, and behind it exactly so many numbers; `clock` has `fast` or `slow` between two.
 use Rattle.std.specs.Prelude.{ℕ, ◌^◌, ◌<◌, cond, List, [], ◌∷◌, Some, None, slice_index, codes, decimal, Option}
-use Rattle.std.specs.Option.{option_map}
+use Rattle.std.specs.Option.{option_map, option_and_then}
 use Rattle.std.specs.Str.{bytes_eq}
 use Rattle.clocks.specs.declared.counting.Drift.{Drift}
 use Rattle.clocks.specs.declared.counting.Drift.TheVariants.{Fast, Slow}
 use Rattle.lines.specs.declared.scripts.ScriptRequest.{ScriptRequest}
 use Rattle.lines.specs.declared.scripts.ScriptRequest.TheVariants.{World, Pass, Clock, Ask, Answer, Honest, Span}
-use Rattle.words.specs.Numbers.{number_of, then, one_of, numbers_of}
+use Rattle.words.specs.Numbers.{number_of, one_of, numbers_of}
 
 -- what the words behind each keyword are read as
 abbrev pub world_of : List (List ℕ) → Option ScriptRequest
@@ -22,7 +22,7 @@ drift_of way parts = cond (bytes_eq way (codes "fast")) (Some (Fast parts)) (con
 abbrev pub clock_of : List (List ℕ) → Option ScriptRequest
 clock_of [] = None
 clock_of (h ∷ []) = None
-clock_of (h ∷ way ∷ ws) = then (number_of h) (λ machine. then (one_of ws) (λ parts. option_map (Clock machine) (drift_of way parts)))
+clock_of (h ∷ way ∷ ws) = option_and_then (λ machine. option_and_then (λ parts. option_map (Clock machine) (drift_of way parts)) (one_of ws)) (number_of h)
 
 abbrev pub ask_of : List (List ℕ) → Option ScriptRequest
 ask_of ws = option_map (λ ns. Ask (slice_index ns 0) (slice_index ns 1)) (numbers_of 2 ws)

@@ -4,6 +4,7 @@ use Rattle.std.proofs.Common.{◌≡◌, ℕ, ◌<◌, false, List, [], ◌∷�
 use Rattle.std.specs.Option.{option_map}
 use Rattle.std.specs.List.{AllByRecursion}
 use Rattle.std.specs.Str.{bytes_eq}
+use Rattle.std.proofs.lemmas.Option.{none-some}
 use Rattle.words.specs.Words.{joined}
 use Rattle.words.proofs.Joins.{joined_words}
 use Rattle.words.proofs.Good.{Good, all_same, all_whole, good_key, good_decimal}
@@ -12,13 +13,13 @@ use Rattle.lines.specs.declared.spans.SpanRequest.{SpanRequest}
 use Rattle.lines.specs.declared.spans.SpanRequest.TheVariants.{Asked, Answer, Now}
 use Rattle.lines.specs.Lines.{skipped, RequestLaws}
 use Rattle.lines.specs.Spans.{asked_of, answer_of, now_of, span_request, span_words, SpanFits}
-use Rattle.lines.specs.Readings.{Reads, pick, keyed, none, read_numbers, no_words}
+use Rattle.lines.specs.Readings.{Reads, pick, keyed, read_numbers, no_words}
 
 abbrev SpanReads : List (List ℕ) → SpanRequest → Type 0
 SpanReads ws q = Reads span_words SpanFits ws q
 
 sound : (ws : List (List ℕ)) (q : SpanRequest) → span_request ws ≡ Some q → SpanReads ws q
-sound [] q e = none q e
+sound [] q e = absurd (none-some q e)
 sound (k ∷ ws) q e =
     pick (bytes_eq k (codes "asked")) (asked_of ws) _ q (SpanReads (k ∷ ws) q)
     (λ t h. read_numbers span_words SpanFits 2 (λ ns. Asked (slice_index ns 0) (slice_index ns 1)) (codes "asked") refl (λ ns. refl) (λ ns h. (h.0, h.1.0)) k ws q (keyed k (codes "asked") t) h)
@@ -26,7 +27,7 @@ sound (k ∷ ws) q e =
     (λ t h. read_numbers span_words SpanFits 4 (λ ns. Answer (slice_index ns 0) (slice_index ns 1) (record { low = slice_index ns 2; high = slice_index ns 3 })) (codes "answer") refl (λ ns. refl) (λ ns h. (h.0, h.1.0, h.1.1.0, h.1.1.1.0)) k ws q (keyed k (codes "answer") t) h)
     (λ e. pick (bytes_eq k (codes "now")) (now_of ws) None q (SpanReads (k ∷ ws) q)
     (λ t h. read_numbers span_words SpanFits 1 (λ ns. Now (slice_index ns 0)) (codes "now") refl (λ ns. refl) (λ ns h. h.0) k ws q (keyed k (codes "now") t) h)
-    (none q) e) e) e
+    (λ e. absurd (none-some q e)) e) e) e
 
 some : (q : SpanRequest) → 0 < length (span_words q)
 some (Asked a b) = lit< tt

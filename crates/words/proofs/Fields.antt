@@ -1,16 +1,10 @@
 -- Numbers are read one after another.
 use Rattle.std.proofs.Common.{◌≡◌, ℕ, ◌+◌, ◌<◌, ◌≤◌, eqb, Bool, true, false, cond, List, [], ◌∷◌, ◌++◌, length, take, set, Some, None, Option, sym, refl, ap, ◌∙◌, append_assoc, append-nil, length-set, arith}
-use Rattle.std.specs.Option.{option_map}
+use Rattle.std.specs.Option.{option_map, option_and_then}
 use Rattle.std.proofs.lemmas.List.{take_more_set, take_all}
-use Rattle.std.proofs.lemmas.List.Splits.{length-slice_split}
 use Rattle.std.proofs.lemmas.Bool.{eq-eqb, ne_eqb, cond-true, cond-false}
-use Rattle.words.specs.Numbers.{NextNumber, number_of, then, all_numbers, numbers_of}
-use Rattle.words.specs.Words.{words_of}
-use Rattle.words.proofs.Plainly.{then_at}
-
--- a line has a word at least
-pub has_word : (bs : List ℕ) → words_of bs ≡ [] → ⊥
-has_word bs e = omega (arith, length-slice_split (λ b. eqb b 32) bs, ap length e)
+use Rattle.words.specs.Numbers.{NextNumber, all_numbers, numbers_of}
+use Rattle.std.proofs.lemmas.Option.{none-some}
 
 -- the first i of the words are read, and are the first i of so many numbers
 pub record Read (size : ℕ) (start rest : List (List ℕ)) (ns : List ℕ) (i : ℕ) : Type 0 where
@@ -31,13 +25,13 @@ onto_more ms ks n (Some js) e = ap Some (sym (append_assoc ms (n ∷ []) js) ∙
 
 -- one number more
 pub go_on : (size : ℕ) (start rest after : List (List ℕ)) (ns : List ℕ) (i n : ℕ) → i < size → NextNumber rest after (Some n) → Read size start rest ns i → Read size start after (set ns i n) (i + 1)
-go_on size start [] after ns i n h e r = absurd (let e = e.1 in let z : ◌≡◌ {A = ℕ} 0 1 = cc in omega arith)
+go_on size start [] after ns i n h e r = absurd (none-some n (sym e.1))
 go_on size start (w ∷ ws) after ns i n h e r = record {
   room = omega (arith, r.room, length-set {A = ℕ});
   count = omega (arith, r.count, ap length e.0);
   numbers =
       r.numbers
-      ∙ ap (option_map (λ ms. take i ns ++ ms)) (then_at (number_of w) (λ m. option_map (λ ms. m ∷ ms) (all_numbers ws)) n (sym e.1))
+      ∙ ap (option_map (λ ms. take i ns ++ ms)) (ap (option_and_then (λ m. option_map (λ ms. m ∷ ms) (all_numbers ws))) (sym e.1))
       ∙ onto_more (take i ns) (take (i + 1) (set ns i n)) n (all_numbers ws) (take_more_set ns i n (omega (arith, r.room)))
       ∙ ap (λ vs. option_map (λ ms. take (i + 1) (set ns i n) ++ ms) (all_numbers vs)) (sym e.0);
 }
@@ -51,7 +45,7 @@ stop size start [] after ns i h e r = otherwise size start (λ s. omega (arith, 
 stop size start (w ∷ ws) after ns i h e r = by (eqb (length start) size)
   where
     none : all_numbers start ≡ None
-    none = r.numbers ∙ ap (λ o. option_map (λ ms. take i ns ++ ms) (then o (λ m. option_map (λ ms. m ∷ ms) (all_numbers ws)))) (sym e.1)
+    none = r.numbers ∙ ap (λ o. option_map (λ ms. take i ns ++ ms) (option_and_then (λ m. option_map (λ ms. m ∷ ms) (all_numbers ws)) o)) (sym e.1)
 
     by : (t : Bool) → None ≡ cond t (all_numbers start) None
     by true = sym none

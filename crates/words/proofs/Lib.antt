@@ -1,7 +1,7 @@
 pub mod Cuts
-pub mod Digits
 pub mod Fields
 pub mod Writes
+pub mod Parses
 pub mod Joins
 pub mod Plainly
 pub mod Good

@@ -1,37 +1,26 @@
 -- Words up to zeros in front: what is read as numbers is, without them, those numbers' digits, and the other way round.
 use Rattle.std.specs.Prelude.{slice_index}
-use Rattle.std.proofs.Common.{◌≡◌, ℕ, ◌^◌, ◌<◌, Bool, true, false, cond, ◌&&◌, eqb, ltb, List, [], ◌∷◌, map, length, Some, None, decimal, Option, sym, refl, ap, ◌∙◌, subst, arith}
-use Rattle.std.specs.Option.{option_map}
+use Rattle.std.proofs.Common.{◌≡◌, ℕ, ◌^◌, ◌<◌, Bool, true, false, cond, eqb, List, [], ◌∷◌, map, length, Some, None, decimal, Option, sym, refl, ap, ◌∙◌, subst, arith}
+use Rattle.std.specs.Option.{option_map, option_and_then}
 use Rattle.std.specs.List.{AllByRecursion}
-use Rattle.std.specs.Str.{all_ascii_digits}
+use Rattle.std.specs.Str.Parse.{digits_value}
+use Rattle.std.proofs.lemmas.Option.{cond_some, none-some, same_Some, option_and_then_some}
 use Rattle.std.proofs.lemmas.List.{length-map}
 use Rattle.std.proofs.lemmas.Fmt.{decimal_injective}
-use Rattle.std.proofs.lemmas.Bool.{and_parts, cond-true, eq-eqb, eqb-true, ltb-true}
-use Rattle.words.specs.Numbers.{value_from, is_number, number_of, plain, plain_by, then, all_numbers, numbers_of, one_of, two_of}
-use Rattle.words.proofs.Writes.{numbers_read_back_lem}
-
-pub then_some : {X Y : Type 0} (o : Option X) (f : X → Option Y) (y : Y) → then o f ≡ Some y → (x : X) × (o ≡ Some x) × (f x ≡ Some y)
-then_some None f y e = absurd (let z : ◌≡◌ {A = ℕ} 0 1 = cc in omega arith)
-then_some (Some x) f y e = (x, refl, e)
-
-pub then_at : {X Y : Type 0} (o : Option X) (f : X → Option Y) (x : X) → o ≡ Some x → then o f ≡ f x
-then_at o f x e = ap (λ p. then p f) e
+use Rattle.std.proofs.lemmas.Bool.{cond-true, eq-eqb, eqb-true}
+use Rattle.words.specs.Numbers.{is_number, number_of, plain, plain_by, all_numbers, numbers_of, one_of, two_of}
+use Rattle.words.proofs.Writes.{number_parts, numbers_read_back_lem}
 
 pub mapped_some : {X Y : Type 0} (f : X → Y) (o : Option X) (y : Y) → option_map f o ≡ Some y → (x : X) × (o ≡ Some x) × (f x ≡ y)
-mapped_some f None y e = absurd (let z : ◌≡◌ {A = ℕ} 0 1 = cc in omega arith)
+mapped_some f None y e = absurd (none-some y e)
 mapped_some f (Some x) y e = (x, refl, cc)
 
 -- the number that a word is
-fits_by : (t : Bool) (v n : ℕ) → cond t (Some v) None ≡ Some n → (t ≡ true) × (v ≡ n)
-fits_by true v n e = (refl, cc)
-fits_by false v n e = absurd (let z : ◌≡◌ {A = ℕ} 0 1 = cc in omega arith)
-
 pub number_fits : (w : List ℕ) (n : ℕ) → number_of w ≡ Some n → n < 2 ^ 64
 number_fits w n e =
-    let p = fits_by (is_number w) (value_from 0 w) n e in
-    let q = and_parts (ltb 0 (length w)) (all_ascii_digits w && ltb (value_from 0 w) (2 ^ 64)) p.0 in
-    let r = and_parts (all_ascii_digits w) (ltb (value_from 0 w) (2 ^ 64)) q.1 in
-    omega (arith, ltb-true (value_from 0 w) (2 ^ 64) r.1, p.1)
+    let p = cond_some (is_number w) (digits_value 10 w) n e in
+    let q = number_parts w p.0 in
+    omega (arith, q.2, p.1)
 
 pub plain_number : (w : List ℕ) (n : ℕ) → number_of w ≡ Some n → plain w ≡ decimal n
 plain_number w n e = ap (plain_by w) e
@@ -46,9 +35,7 @@ number_plain w n h e = number_by w n (number_of w) refl h e
 -- a word that is no number stays as it is, and no other word becomes it
 key_by : (w key : List ℕ) (o : Option ℕ) → number_of w ≡ o → number_of key ≡ None → plain_by w o ≡ key → w ≡ key
 key_by w key None is none e = e
-key_by w key (Some m) is none e =
-    let p : Some m ≡ None = sym (numbers_read_back_lem m (number_fits w m is)) ∙ ap number_of e ∙ none in
-    absurd (let z : ◌≡◌ {A = ℕ} 0 1 = cc in omega arith)
+key_by w key (Some m) is none e = absurd (none-some m (sym none ∙ ap number_of (sym e) ∙ numbers_read_back_lem m (number_fits w m is)))
 
 pub key_plain : (w key : List ℕ) → number_of key ≡ None → plain w ≡ key → w ≡ key
 key_plain w key none e = key_by w key (number_of w) refl none e
@@ -60,20 +47,20 @@ Fit ns = AllByRecursion (λ n. n < 2 ^ 64) ns
 -- words that are numbers are plainly those numbers' digits
 pub all_sound : (ws : List (List ℕ)) (ns : List ℕ) → all_numbers ws ≡ Some ns → (map plain ws ≡ map decimal ns) × Fit ns
 all_sound [] [] e = (refl, tt)
-all_sound [] (n ∷ ns) e = absurd (let z : ◌≡◌ {A = ℕ} 0 1 = cc in omega arith)
+all_sound [] (n ∷ ns) e = absurd (omega (arith, ap length (same_Some [] (n ∷ ns) e)))
 all_sound (w ∷ ws) ns e =
-    let s = then_some (number_of w) (λ a. option_map (λ ks. a ∷ ks) (all_numbers ws)) ns e in
-    let m = mapped_some (λ ks. s.0 ∷ ks) (all_numbers ws) ns s.2 in
+    option_and_then_some (λ a. option_map (λ ks. a ∷ ks) (all_numbers ws)) (number_of w) ns e (λ n is f.
+    let m = mapped_some (λ ks. n ∷ ks) (all_numbers ws) ns f in
     let o = all_sound ws m.0 m.1 in
-    subst (λ k. (map plain (w ∷ ws) ≡ map decimal k) × Fit k) m.2 ((λ i. plain_number w s.0 s.1 i ∷ o.0 i), (number_fits w s.0 s.1, o.1))
+    subst (λ k. (map plain (w ∷ ws) ≡ map decimal k) × Fit k) m.2 ((λ i. plain_number w n is i ∷ o.0 i), (number_fits w n is, o.1)))
 
 -- and the other way round
 pub all_complete : (ws : List (List ℕ)) (ns : List ℕ) → Fit ns → map plain ws ≡ map decimal ns → all_numbers ws ≡ Some ns
 all_complete [] [] h e = refl
-all_complete [] (n ∷ ns) h e = absurd (let z : ◌≡◌ {A = ℕ} 0 1 = cc in omega arith)
-all_complete (w ∷ ws) [] h e = absurd (let z : ◌≡◌ {A = ℕ} 0 1 = cc in omega arith)
+all_complete [] (n ∷ ns) h e = absurd (omega (arith, ap length e))
+all_complete (w ∷ ws) [] h e = absurd (omega (arith, ap length e))
 all_complete (w ∷ ws) (n ∷ ns) h e =
-    then_at (number_of w) (λ x. option_map (λ ks. x ∷ ks) (all_numbers ws)) n (number_plain w n h.0 (cc)) ∙ ap (option_map (λ ks. n ∷ ks)) (all_complete ws ns h.1 (cc))
+    ap (option_and_then (λ x. option_map (λ ks. x ∷ ks) (all_numbers ws))) (number_plain w n h.0 (cc)) ∙ ap (option_map (λ ks. n ∷ ks)) (all_complete ws ns h.1 (cc))
 
 -- the same of exactly so many numbers
 pub numbers_sound : (count : ℕ) (ws : List (List ℕ)) (ns : List ℕ) → numbers_of count ws ≡ Some ns → (map plain ws ≡ map decimal ns) × Fit ns × (length ns ≡ count)
@@ -81,7 +68,7 @@ numbers_sound count ws ns e = by (eqb (length ws) count) refl e
   where
     by : (t : Bool) → eqb (length ws) count ≡ t → cond t (all_numbers ws) None ≡ Some ns → (map plain ws ≡ map decimal ns) × Fit ns × (length ns ≡ count)
     by true is e = let a = all_sound ws ns e in (a.0, a.1, omega (arith, eqb-true (length ws) count is, ap length a.0, length-map ws plain, length-map ns decimal))
-    by false is e = absurd (let z : ◌≡◌ {A = ℕ} 0 1 = cc in omega arith)
+    by false is e = absurd (none-some ns e)
 
 pub numbers_complete : (ws : List (List ℕ)) (ns : List ℕ) → Fit ns → map plain ws ≡ map decimal ns → numbers_of (length ns) ws ≡ Some ns
 numbers_complete ws ns h e =

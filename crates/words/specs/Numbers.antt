@@ -1,35 +1,26 @@
 -- Numbers as words.
-use Rattle.std.specs.Prelude.{◌≡◌, ℕ, ◌+◌, ◌-◌, ◌*◌, ◌^◌, Bool, cond, ◌&&◌, List, [], ◌∷◌, length, Some, None, decimal, Option, nat_lt, slice_index, ◌==◌}
-use Rattle.std.specs.Option.{option_map}
+use Rattle.std.specs.Prelude.{◌≡◌, ℕ, ◌^◌, Bool, cond, ◌&&◌, List, [], ◌∷◌, length, Some, None, decimal, Option, nat_lt, slice_index, ◌==◌}
+use Rattle.std.specs.Option.{option_map, option_and_then}
 use Rattle.std.specs.Str.{all_ascii_digits}
+use Rattle.std.specs.Str.Parse.{digits_value}
 
--- the value of digits that stand behind others of the value n
-abbrev pub value_from : ℕ → List ℕ → ℕ
-value_from n [] = n
-value_from n (b ∷ bs) = value_from (n * 10 + (b - 48)) bs
-
--- one or more digits (48 to 57) and nothing else, of a value below 2 ^ 64
+-- one or more digits (48 to 57) and nothing else, of a value below 2 ^ 64; `digits_value 10` is the number that they write in base ten
 abbrev pub is_number : List ℕ → Bool
-is_number w = nat_lt 0 (length w) && (all_ascii_digits w && nat_lt (value_from 0 w) (2 ^ 64))
+is_number w = nat_lt 0 (length w) && (all_ascii_digits w && nat_lt (digits_value 10 w) (2 ^ 64))
 
 -- the number that a word is, if it is one
 abbrev pub number_of : List ℕ → Option ℕ
-number_of w = cond (is_number w) (Some (value_from 0 w)) None
+number_of w = cond (is_number w) (Some (digits_value 10 w)) None
 
 -- the first of the words is read, and the result is the number that it is; without a word there is no number
 abbrev pub NextNumber : List (List ℕ) → List (List ℕ) → Option ℕ → Type 0
 NextNumber [] after result = (after ≡ []) × (result ≡ None)
 NextNumber (w ∷ ws) after result = (after ≡ ws) × (result ≡ number_of w)
 
--- a reading that goes on from another
-abbrev pub then : {X Y : Type 0} → Option X → (X → Option Y) → Option Y
-then None f = None
-then (Some x) f = f x
-
 -- the numbers that words are, if each of them is one
 abbrev pub all_numbers : List (List ℕ) → Option (List ℕ)
 all_numbers [] = Some []
-all_numbers (w ∷ ws) = then (number_of w) (λ n. option_map (λ ns. n ∷ ns) (all_numbers ws))
+all_numbers (w ∷ ws) = option_and_then (λ n. option_map (λ ns. n ∷ ns) (all_numbers ws)) (number_of w)
 
 -- words that are exactly so many numbers
 abbrev pub numbers_of : ℕ → List (List ℕ) → Option (List ℕ)

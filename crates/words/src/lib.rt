@@ -9,37 +9,24 @@
 //! are the words of their line, a line is its words joined, and a number's digits read back as that number.
 #![tactic(auto)]
 
-ghost use Rattle.std.specs.Prelude.{◌≡◌, ◌+◌, ◌-◌, ◌*◌, ◌^◌, ◌==◌, ◌&&◌, ◌∷◌, if◌then◌else◌, Some, None, nat_lt, position};
+ghost use Rattle.std.specs.Prelude.{◌≡◌, ◌==◌, ◌∷◌, position};
 ghost use Rattle.std.specs.Iterator.{YieldsFirstRef, item_count};
-ghost use Rattle.std.specs.Char.{is_ascii_digit};
 ghost use Rattle.words.specs.Laws.{LinesReadBack, NoZeroInFront, NumbersReadBack, WordsReadBack};
 ghost use Rattle.words.specs.Numbers.{NextNumber, number_of, numbers_of};
 ghost use Rattle.words.specs.Words.{left, words_of};
 
 use std::marker::Model;
 
-// The value of a digit.
-fn digit(b: u8) -> Option<u64>
-    ensures { result ≡ (if is_ascii_digit b then Some (b - 48) else None) }
-{
-    char::from(b).to_digit(10).map(u64::from)
-}
-
-// The number `n` with one more digit behind it.
-fn with_digit(n: u64, b: u8) -> Option<u64>
-    ensures { result ≡ (if is_ascii_digit b && nat_lt (n * 10 + (b - 48)) (2 ^ 64) then Some (n * 10 + (b - 48)) else None) }
-{
-    n.checked_mul(10)?.checked_add(digit(b)?)
-}
-
 /// The number that a word is, if it is one.
+#[tactic(auto, using(crate::proofs::Parses::no_text, crate::proofs::Parses::parsed))]
 pub fn number(word: &[u8]) -> Option<u64>
     ensures { result ≡ number_of word.now }
 {
-    if word.is_empty() {
+    // `parse` takes a plus in front of the digits too
+    if word.starts_with(b"+") {
         return None;
     }
-    word.iter().try_fold(0, |n, b| with_digit(n, *b))
+    str::from_utf8(word).ok()?.parse().ok()
 }
 
 // Where the first space of a line stands, if there is one.
@@ -61,9 +48,10 @@ fn first_word(line: &[u8]) -> (&[u8], Option<&[u8]>)
 }
 
 /// The words of a line that have not been read yet.
+// Not the iterator of std's `split`: a field would have to name its closure's type, which has no name.
 #[derive(Drop)]
 pub struct Words<'a> {
-    // What stands behind the space that ended the last word; nothing where no space did.
+    // The whole line before the first word, and then what stands behind the space that ended the last one; nothing where none did.
     rest: Option<&'a [u8]>,
 }
 
