@@ -15,7 +15,8 @@ use Rattle.clocks.specs.declared.counting.Drift.TheVariants.{Fast, Slow}
 use Rattle.lines.specs.declared.scripts.ScriptRequest.{ScriptRequest}
 use Rattle.lines.specs.declared.scripts.ScriptRequest.TheVariants.{World, Pass, Clock, Ask, Answer, Honest, Span}
 use Rattle.lines.specs.Lines.{skipped, RequestLaws}
-use Rattle.lines.specs.Scripts.{world_of, pass_of, drift_of, drift_words, clock_of, ask_of, answer_of, honest_of, span_of, script_request, script_words, parts_of, ScriptFits}
+use Rattle.clocks.specs.Dials.{parts_of}
+use Rattle.lines.specs.Scripts.{world_of, pass_of, drift_of, drift_words, clock_of, ask_of, answer_of, honest_of, span_of, script_request, script_words, ScriptFits}
 use Rattle.lines.specs.Readings.{Reads, pick, keyed, read_numbers, no_words}
 
 abbrev ScriptReads : List (List ℕ) → ScriptRequest → Type 0

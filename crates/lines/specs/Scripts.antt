@@ -4,6 +4,7 @@ use Rattle.std.specs.Option.{option_map, option_and_then}
 use Rattle.std.specs.Str.{bytes_eq}
 use Rattle.clocks.specs.declared.counting.Drift.{Drift}
 use Rattle.clocks.specs.declared.counting.Drift.TheVariants.{Fast, Slow}
+use Rattle.clocks.specs.Dials.{parts_of}
 use Rattle.lines.specs.declared.scripts.ScriptRequest.{ScriptRequest}
 use Rattle.lines.specs.declared.scripts.ScriptRequest.TheVariants.{World, Pass, Clock, Ask, Answer, Honest, Span}
 use Rattle.words.specs.Numbers.{number_of, one_of, numbers_of}
@@ -61,10 +62,6 @@ script_words (Ask machine server) = codes "ask" ∷ decimal machine ∷ decimal 
 script_words (Answer machine server span) = codes "answer" ∷ decimal machine ∷ decimal server ∷ decimal span.low ∷ decimal span.high ∷ []
 script_words (Honest machine server less more) = codes "honest" ∷ decimal machine ∷ decimal server ∷ decimal less ∷ decimal more ∷ []
 script_words (Span machine) = codes "span" ∷ decimal machine ∷ []
-
-abbrev pub parts_of : Drift → ℕ
-parts_of (Fast parts) = parts
-parts_of (Slow parts) = parts
 
 -- the numbers of a request are below 2 ^ 64
 abbrev pub ScriptFits : ScriptRequest → Type 0
