@@ -7,7 +7,6 @@ ghost use Rattle.rehearse.specs.Responds.{Begins, Heard, OnInput, OnPace, OnPass
 use super::rehearsal::Rehearsal;
 use answers::{Reply, Said};
 use clocks::counting::Drift;
-use clocks::growth::Span;
 use lines::{ScriptRequest, Unreadable};
 use std::alloc::Global;
 use votes::types::{Refusal, Setup};

@@ -12,7 +12,6 @@ ghost use Rattle.span.specs.Respond.{setup_of, said_of, after_of, heard, heard_a
 
 use answers::{Reply, Said, put_reply};
 use anyhow::Context;
-use clocks::growth::Span;
 use console::{Program, arguments, report, serve};
 use lines::{SpanRequest, Unreadable};
 use std::alloc::AllocError;
