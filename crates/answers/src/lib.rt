@@ -80,6 +80,7 @@ pub fn put_number(out: &mut Vec<u8>, n: u64) -> Result<(), AllocError>
     ensures items { out.new.items ≡ (if is_ok result then out.old.items ++ decimal n else out.old.items) }
     ensures reads { number_of (decimal n) ≡ Some n }
 {
+    // in a buffer of its own, so that nothing but `out` can want memory
     out.extend_from_slice(Buffer::new().format(n).as_bytes())
 }
 

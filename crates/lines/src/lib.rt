@@ -7,8 +7,8 @@
 //! that the request is written as, up to zeros in front of its numbers, and it is unreadable only if that holds of no request. Every
 //! request has a line that reads back as it.
 //!
-//! What a program is asked for is a type with the trait `Request`, whose laws are what `read` rests on: each is proved once for all of
-//! them.
+//! What a program is asked for is a type with the trait `Request`, whose laws each impl proves; what `read` and `requests_read_back`
+//! promise is proved from them, once for all.
 #![tactic(auto)]
 
 ghost use Rattle.std.specs.Prelude.{◌≡◌, ℕ, List, Option};

@@ -11,7 +11,7 @@ use Rattle.clocks.specs.declared.counting.Drift.{Drift}
 use Rattle.votes.specs.declared.types.Setup.{Setup}
 use Rattle.votes.specs.declared.types.Refusal.{Refusal}
 use Rattle.votes.specs.declared.types.Refusal.TheVariants.{Invalid}
-use Rattle.votes.specs.Exchanges.{number_of}
+use Rattle.votes.specs.Exchanges.{number_of, setup_of}
 use Rattle.world.specs.declared.actions.Input.{Input}
 use Rattle.world.specs.declared.actions.Input.TheVariants as input
 use Rattle.world.specs.declared.actions.Reply.{Reply}
@@ -74,9 +74,6 @@ Responds v (request.Span machine) exit r = Answered (OnInput v machine input.Spa
 abbrev pub time_of : Option RehearsalView → ℕ
 time_of None = 0
 time_of (Some v) = v.world.now
-
-abbrev pub setup_of : (servers faulty rate : ℕ) → Setup
-setup_of servers faulty rate = record { servers = servers; faulty = faulty; rate = rate; first = 1 }
 
 -- a new world takes the place of the old one, or it is refused and the old one stays
 abbrev pub Begins : Option RehearsalView → ℕ → Setup → Option RehearsalView → Answer → Type 0

@@ -22,14 +22,14 @@ pub(crate) struct Script {
 // What came of a call on the world.
 type Outcome = Result<actions::Reply, Refusal>;
 
+// What a refusal is answered by. Not a `From`, which may not stand here between types of two other crates.
 fn refused(refusal: Refusal) -> Said
     ensures { result ≡ refused_as refusal }
 {
     Said::refused(refusal.number())
 }
 
-// What is said where nothing was refused: a span, or that it was done. Not a `From`, which may not stand here between types of two
-// other crates.
+// What is said where nothing was refused: a span, or that it was done. No `From` either.
 fn said(reply: actions::Reply) -> Said
     ensures { result ≡ said_of reply }
 {
@@ -181,13 +181,7 @@ impl Script {
             rate,
         } = request
         {
-            let setup = Setup {
-                servers: servers as usize,
-                faulty: faulty as usize,
-                rate,
-                first: 1,
-            };
-            return self.begin(machines, setup);
+            return self.begin(machines, Setup::numbered(servers, faulty, rate));
         }
         if let Some(playing) = &mut self.playing {
             if let Some(reply) = playing.respond(request) {

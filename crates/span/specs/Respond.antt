@@ -2,7 +2,6 @@
 use Rattle.std.specs.Prelude.{ℕ, Some, None, Ok, Err, Option, Result}
 use Rattle.std.specs.Option.{unwrap_or}
 use Rattle.clocks.specs.declared.growth.Span.{Span}
-use Rattle.votes.specs.declared.types.Setup.{Setup}
 use Rattle.votes.specs.declared.types.Refusal.{Refusal}
 use Rattle.votes.specs.declared.types.Refusal.TheVariants.{Invalid}
 use Rattle.votes.specs.Exchanges.{View, number_of, last_number, ask_reply, ask_after, answer_reply, answer_after, span_reply, span_after}
@@ -11,10 +10,6 @@ use Rattle.answers.specs.declared.Said.TheVariants as said
 use Rattle.lines.specs.declared.Unreadable.{Unreadable}
 use Rattle.lines.specs.declared.spans.SpanRequest.{SpanRequest}
 use Rattle.lines.specs.declared.spans.SpanRequest.TheVariants as request
-
--- the machine that the program is started for; its asks are numbered from 1
-abbrev pub setup_of : (servers faulty rate : ℕ) → Setup
-setup_of servers faulty rate = record { servers = servers; faulty = faulty; rate = rate; first = 1 }
 
 -- what is said where only whether it was taken counts
 abbrev pub taken : {A : Type 0} → Result A Refusal → Said

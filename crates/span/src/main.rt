@@ -4,11 +4,11 @@
 //! machine does from `votes`, and how an answer is written from `answers`: here is only which call a request makes (`respond`).
 #![tactic(auto)]
 
-ghost use Rattle.std.specs.Prelude.{◌≡◌, true, false, MatchOption};
-ghost use Rattle.votes.specs.Exchanges.{opened, valid_setup};
+ghost use Rattle.std.specs.Prelude.{◌≡◌, false, MatchOption};
+ghost use Rattle.votes.specs.Exchanges.{setup_of, valid_setup, IsOpened};
 ghost use Rattle.lines.specs.Lines.{line_by};
 ghost use Rattle.lines.specs.Spans.{span_request};
-ghost use Rattle.span.specs.Respond.{setup_of, said_of, after_of, heard, heard_after};
+ghost use Rattle.span.specs.Respond.{said_of, after_of, heard, heard_after};
 
 use answers::{Reply, Said, put_reply};
 use anyhow::Context;
@@ -89,14 +89,9 @@ impl Program for Machine {
 
 // A machine that has asked nobody yet, if the numbers are in range.
 fn made(servers: u64, faulty: u64, rate: u64) -> Option<Machine>
-    ensures { MatchOption result (valid_setup (setup_of servers faulty rate) ≡ false) (λ m. (valid_setup (setup_of servers faulty rate) ≡ true) × (m.votes ≡ opened (setup_of servers faulty rate))) }
+    ensures { MatchOption result (valid_setup (setup_of servers faulty rate) ≡ false) (λ m. IsOpened (setup_of servers faulty rate) m.votes) }
 {
-    let votes = Votes::new(Setup {
-        servers: servers as usize,
-        faulty: faulty as usize,
-        rate,
-        first: 1,
-    })?;
+    let votes = Votes::new(Setup::numbered(servers, faulty, rate))?;
     Some(Machine { votes })
 }
 

@@ -1,5 +1,5 @@
 -- A machine's exchanges with its time servers, and what each call answers and leaves behind.
-use Rattle.std.specs.Prelude.{◌≡◌, ℕ, ◌+◌, ◌-◌, ◌*◌, ◌%◌, ◌<◌, ◌≤◌, Bool, false, cond, ◌&&◌, List, length, map, take, replicate, is_ok, Some, None, Ok, Err, Option, Result, ◌==◌, nat_le, nat_lt, slice_index_or, slice_set}
+use Rattle.std.specs.Prelude.{◌≡◌, ℕ, ◌+◌, ◌-◌, ◌*◌, ◌%◌, ◌<◌, ◌≤◌, Bool, true, false, cond, ◌&&◌, List, length, map, take, replicate, is_ok, Some, None, Ok, Err, Option, Result, ◌==◌, nat_le, nat_lt, slice_index_or, slice_set}
 use Rattle.std.specs.Option.{ok_or, option_map, option_map_or}
 use Rattle.clocks.specs.declared.growth.Answer.{Answer}
 use Rattle.clocks.specs.declared.growth.Span.{Span}
@@ -16,6 +16,10 @@ abbrev pub number_of : Refusal → ℕ
 number_of Invalid = 1
 number_of WrongNumber = 2
 number_of NoSpan = 3
+
+-- what three numbers ask for, with asks that are numbered from 1
+abbrev pub setup_of : (servers faulty rate : ℕ) → Setup
+setup_of servers faulty rate = record { servers = servers; faulty = faulty; rate = rate; first = 1 }
 
 -- at most 16 time servers, twice as many as may be faulty below that, and a clock that is off by at most 1,000 parts in a million
 abbrev pub valid_setup : Setup → Bool
@@ -44,6 +48,10 @@ blank = record { ask = None; known = None }
 
 abbrev pub opened : Setup → View
 opened s = record { rate = s.rate; servers = s.servers; faulty = s.faulty; first = s.first; latest = 0; exchanges = replicate 16 blank }
+
+-- a machine that was made from a setup, which is in range
+abbrev pub IsOpened : Setup → View → Type 0
+IsOpened s v = (valid_setup s ≡ true) × (v ≡ opened s)
 
 abbrev pub exchange : View → ℕ → Exchange
 exchange v server = slice_index_or v.exchanges server blank

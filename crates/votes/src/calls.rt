@@ -1,6 +1,6 @@
-//! The calls on a machine's exchanges. A refusal changes nothing.
+//! The calls on a machine's exchanges. A refusal changes nothing; each call says so itself, since a reader of one call looks for it there.
 ghost use Rattle.std.specs.Prelude.{◌≡◌, ◌-◌, ◌<◌, IsTrue, false, true, map, OnOk, OnErr, MatchOption, MatchResult};
-ghost use Rattle.votes.specs.Exchanges.{number_of, valid_setup, opened, IsInRange, fits, next_number, ask_reply, ask_after, last_number, answer_reply, answer_after, grown_exchange, spans_at, span_of, span_reply, span_after};
+ghost use Rattle.votes.specs.Exchanges.{number_of, setup_of, valid_setup, IsOpened, IsInRange, fits, next_number, ask_reply, ask_after, last_number, answer_reply, answer_after, grown_exchange, spans_at, span_of, span_reply, span_after};
 ghost use Rattle.votes.specs.Promise.{Lawful, NoVotes, SpanGiven};
 
 use crate::counts::outermost;
@@ -18,6 +18,18 @@ impl Refusal {
 }
 
 impl Setup {
+    /// What three numbers ask for, with asks that are numbered from 1.
+    pub fn numbered(servers: u64, faulty: u64, rate: u64) -> Setup
+        ensures { result ≡ setup_of servers faulty rate }
+    {
+        Setup {
+            servers: servers as usize,
+            faulty: faulty as usize,
+            rate,
+            first: 1,
+        }
+    }
+
     /// Are its numbers in range: 1 to 16 time servers, twice as many as may be faulty below that, and a rate of at most 1,000?
     pub fn is_valid(&self) -> bool
         ensures { result ≡ valid_setup self.now }
@@ -48,7 +60,7 @@ impl Exchange {
 impl Votes {
     /// A machine that has asked nobody yet; nothing where its setup is out of range.
     pub fn new(setup: Setup) -> Option<Votes>
-        ensures { MatchOption result (valid_setup setup ≡ false) (λ v. (valid_setup setup ≡ true) × (v ≡ opened setup)) }
+        ensures { MatchOption result (valid_setup setup ≡ false) (λ v. IsOpened setup v) }
     {
         if !setup.is_valid() {
             return None;

@@ -57,7 +57,7 @@ pub struct Votes {
     pub(crate) first: u32,
     // the highest clock reading taken
     pub(crate) latest: u64,
-    // the first `servers` count; an array, since a machine is made without allocating
+    // sixteen places, of which the first `servers` count; an array, since a machine is made without allocating
     pub(crate) exchanges: [Exchange; SERVERS],
 }
 

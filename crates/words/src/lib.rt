@@ -110,12 +110,14 @@ impl<'a> Words<'a> {
 }
 
 /// Carries the laws that a number's digits read back as that number, with no zero in front.
+#[tactic(auto, using(crate::proofs::Writes::numbers_read_back_lem))]
 pub fn numbers_read_back()
     ensures same { NumbersReadBack }
     ensures short { NoZeroInFront }
 {}
 
 /// Carries the laws that joined words are the words of their line, and that a line is its words joined.
+#[tactic(auto, using(crate::proofs::Joins::words_read_back_lem, crate::proofs::Joins::lines_read_back))]
 pub fn words_read_back()
     ensures joined { WordsReadBack }
     ensures cut { LinesReadBack }

@@ -47,6 +47,10 @@ Refused ss not_made.Memory = valid ss ≡ true
 abbrev pub start : List Setup → WorldView
 start ss = record { now = 0; machines = map made ss }
 
+-- a world that was made from setups, which are in range, and in which nothing has happened
+abbrev pub IsStart : List Setup → WorldView → Type 0
+IsStart ss w = (valid ss ≡ true) × (w ≡ start ss)
+
 -- ONE MACHINE, at a true time and a clock reading
 
 abbrev pub asked : Result ℕ Refusal → Result Reply Refusal

@@ -4,13 +4,13 @@ ghost use Rattle.world.specs.Step.{number_of};
 ghost use Rattle.world.specs.declared.actions.NotMade.TheVariants.{Memory};
 
 use clocks::growth::Span;
-use std::alloc::{AllocError, AllocFailed};
+use std::alloc::AllocError;
 
 /// What comes to a machine: it is to ask a time server, a time server's answer has come, or it is to give its span.
 #[derive(Clone, Copy, PartialEq, Eq, Debug)]
 pub enum Input {
     Ask(usize),
-    // no struct of the three, since every call takes them apart at once
+    // no struct of the three: made by one call, it would be taken apart by the next
     Answer(usize, u32, Span),
     Span,
 }
@@ -40,7 +40,6 @@ pub enum NotMade {
     Memory = 99,
 }
 
-// Both of std's errors at a want of memory are converted, since std has no conversion that `?` would take first.
 impl From<AllocError> for NotMade {
     ghost from_gives = { λ _ r. r ≡ Memory };
 
@@ -49,16 +48,8 @@ impl From<AllocError> for NotMade {
     }
 }
 
-impl<T: Drop> From<AllocFailed<T>> for NotMade {
-    ghost from_gives = { λ _ r. r ≡ Memory };
-
-    fn from(_e: AllocFailed<T>) -> NotMade {
-        NotMade::Memory
-    }
-}
-
 impl NotMade {
-    /// Its number in the lines and messages, as `votes::types::Refusal::number`.
+    /// Its number in the lines and messages. A method of each enum that has numbers, since a trait over them would say no more.
     pub fn number(self) -> u8
         ensures { result ≡ number_of self }
     {

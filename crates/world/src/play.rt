@@ -1,7 +1,7 @@
-//! The calls of a world.
-ghost use Rattle.std.specs.Prelude.{◌≡◌, true, IfOk, OnErr, MatchResult};
+//! The calls of a world. A refusal changes nothing, as `play` says.
+ghost use Rattle.std.specs.Prelude.{◌≡◌, IfOk, OnErr, MatchResult};
 ghost use Rattle.world.specs.Promise.{Reached, SpanTrue, SpansHold};
-ghost use Rattle.world.specs.Step.{valid, Refused, start, last_ask, reply_of, step};
+ghost use Rattle.world.specs.Step.{IsStart, Refused, last_ask, reply_of, step};
 
 use crate::actions::{Action, NotMade, Reply};
 use crate::stage::Stage;
@@ -12,7 +12,7 @@ use votes::types::{Refusal, Setup};
 impl World {
     // The world of a stage that nothing has happened on: no action led to it.
     fn at_start(setups: &[Setup], stage: Stage) -> World
-        requires { (valid setups.now ≡ true) × (stage ≡ start setups.now) }
+        requires { IsStart setups.now stage }
         ensures value { result ≡ stage }
         ensures reached { ∥ Reached result ∥₁ }
     {
@@ -21,7 +21,7 @@ impl World {
 
     /// A world of 1 to 8 machines, at true time 0, or why there is none.
     pub fn new(heap: Global, setups: &[Setup]) -> Result<World, NotMade>
-        ensures made { MatchResult result (λ w. (valid setups.now ≡ true) × (w ≡ start setups.now)) (λ e. Refused setups.now e) }
+        ensures made { MatchResult result (λ w. IsStart setups.now w) (λ e. Refused setups.now e) }
         ensures reached { IfOk result (λ w. ∥ Reached w ∥₁) }
     {
         let stage = Stage::new(heap, setups)?;
@@ -30,7 +30,8 @@ impl World {
 
     /// The true time.
     pub fn time(&self) -> u64
-        ensures { result ≡ self.now.now }
+        ensures value { result ≡ self.now.now }
+        ensures reached { ∥ Reached self.now ∥₁ }
     {
         self.stage.time
     }

@@ -2,12 +2,12 @@
 ghost use Rattle.std.specs.Prelude.{◌≡◌, true, vec_items, MatchResult};
 ghost use Rattle.std.specs.List.{list_all};
 ghost use Rattle.votes.specs.Exchanges.{valid_setup};
-ghost use Rattle.world.specs.Step.{WorldView, valid, Refused, start, last_ask, reply_of, step};
+ghost use Rattle.world.specs.Step.{WorldView, valid, IsStart, Refused, last_ask, reply_of, step};
 ghost use Rattle.world.specs.declared.actions.Action.TheVariants as actions;
 
 use crate::actions::{Action, Input, NotMade, Reply};
 use crate::machine::{Machine, Reading};
-use std::alloc::Global;
+use std::alloc::{AllocError, Global};
 use std::marker::Model;
 use votes::types::{Refusal, Setup};
 
@@ -44,18 +44,19 @@ impl Model for Stage {
 impl Stage {
     // A machine for each setup, at true time 0.
     pub(crate) fn new(heap: Global, setups: &[Setup]) -> Result<Stage, NotMade>
-        ensures { MatchResult result (λ s. (valid setups.now ≡ true) × (s ≡ start setups.now)) (λ e. Refused setups.now e) }
+        ensures { MatchResult result (λ s. IsStart setups.now s) (λ e. Refused setups.now e) }
     {
         // before anything is allocated, since an invalid setup comes before want of memory
         if !are_valid(setups) {
             return Err(NotMade::Invalid);
         }
         let mut machines = Vec::new(heap);
+        // a `for` and no `collect`, since a closure would not know that each setup is in range
         for setup in setups {
             let Some(machine) = Machine::new(*setup) else {
                 unreachable()
             };
-            machines.push(machine)?;
+            machines.push(machine).map_err(AllocError::from)?;
         }
         Ok(Stage { time: 0, machines })
     }
