@@ -9,6 +9,7 @@ use clocks::growth::Span;
 use words::Words;
 
 /// A request to the program that plays a script.
+// A machine and its time server are numbers of their own, and no struct, since each is looked up apart.
 #[derive(Clone, Copy, PartialEq, Eq, Debug)]
 pub enum ScriptRequest {
     World {

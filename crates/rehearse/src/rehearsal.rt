@@ -1,4 +1,4 @@
-//! A world with a clock for each of its machines.
+//! A world with a clock for each of its machines. A refusal changes nothing; each call says so itself.
 ghost use Rattle.std.specs.Prelude.{◌≡◌, true, map, replicate, vec_items, IfOk, OnErr, MatchResult};
 ghost use Rattle.clocks.specs.Counting.{pass, turned, fresh_dial};
 ghost use Rattle.rehearse.specs.Promise.{RehearsalsHold};
