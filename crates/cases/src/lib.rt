@@ -274,36 +274,14 @@ pub fn setup(case: Case) -> Setup
     ensures { result ≡ setup_of case }
 {
     match case {
-        Case::A | Case::Stays => Setup {
-            servers: 1,
-            faulty: 0,
-            rate: 0,
-            first: 1,
-        },
-        Case::B => Setup {
-            servers: 3,
-            faulty: 1,
-            rate: 0,
-            first: 1,
-        },
+        Case::A | Case::Stays => Setup::numbered(1, 0, 0),
+        Case::B => Setup::numbered(3, 1, 0),
         Case::Wraps => Setup {
-            servers: 1,
-            faulty: 0,
-            rate: 0,
             first: 4294967295,
+            ..Setup::numbered(1, 0, 0)
         },
-        Case::Refuses => Setup {
-            servers: 2,
-            faulty: 0,
-            rate: 1000,
-            first: 1,
-        },
-        Case::Ends => Setup {
-            servers: 1,
-            faulty: 0,
-            rate: 1000,
-            first: 1,
-        },
+        Case::Refuses => Setup::numbered(2, 0, 1000),
+        Case::Ends => Setup::numbered(1, 0, 1000),
     }
 }
 

@@ -1,4 +1,5 @@
-//! A world with a clock for each of its machines. A refusal changes nothing; each call says so itself.
+//! A world with a clock for each of its machines. A refusal changes nothing; each call says so itself, since a reader of one call
+//! looks for it there.
 ghost use Rattle.std.specs.Prelude.{◌≡◌, true, map, replicate, vec_items, IfOk, OnErr, MatchResult};
 ghost use Rattle.clocks.specs.Counting.{pass, turned, fresh_dial};
 ghost use Rattle.rehearse.specs.Promise.{RehearsalsHold};
@@ -115,7 +116,8 @@ impl Rehearsal {
         Ok(())
     }
 
-    /// The answer of a time server, with the number of the machine's last ask of it; where there was none, no number fits.
+    /// The answer of a time server, with the number of the machine's last ask of it; where there was none, no number fits. Machine
+    /// and server are no struct, since each is looked up apart.
     pub(crate) fn answer(&self, machine: u64, server: u64, span: Span) -> Input
         ensures { result ≡ answer_input self.now machine server span }
     {

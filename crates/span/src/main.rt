@@ -5,7 +5,7 @@
 #![tactic(auto)]
 
 ghost use Rattle.std.specs.Prelude.{◌≡◌, false, MatchOption};
-ghost use Rattle.votes.specs.Exchanges.{setup_of, valid_setup, IsOpened};
+ghost use Rattle.votes.specs.Exchanges.{valid_setup, IsOpened};
 ghost use Rattle.lines.specs.Lines.{line_by};
 ghost use Rattle.lines.specs.Spans.{span_request};
 ghost use Rattle.span.specs.Respond.{said_of, after_of, heard, heard_after};
@@ -87,11 +87,11 @@ impl Program for Machine {
     }
 }
 
-// A machine that has asked nobody yet, if the numbers are in range.
-fn made(servers: u64, faulty: u64, rate: u64) -> Option<Machine>
-    ensures { MatchOption result (valid_setup (setup_of servers faulty rate) ≡ false) (λ m. IsOpened (setup_of servers faulty rate) m.votes) }
+// A machine that has asked nobody yet, if its setup is in range.
+fn made(setup: Setup) -> Option<Machine>
+    ensures { MatchOption result (valid_setup setup ≡ false) (λ m. IsOpened setup m.votes) }
 {
-    let votes = Votes::new(Setup::numbered(servers, faulty, rate))?;
+    let votes = Votes::new(setup)?;
     Some(Machine { votes })
 }
 
@@ -100,11 +100,11 @@ fn asked_for(args: &[String]) -> Option<Machine> {
     let [servers, faulty, rate] = args else {
         return None;
     };
-    made(
+    made(Setup::numbered(
         number(servers.as_bytes())?,
         number(faulty.as_bytes())?,
         number(rate.as_bytes())?,
-    )
+    ))
 }
 
 fn run(rt: &HostRuntime) -> anyhow::Result<()> {

@@ -9,7 +9,8 @@ use clocks::growth::{Answer, Span};
 use clocks::rates::Rate;
 
 impl Refusal {
-    /// Its number in the lines and messages. Not `u8::from`, which would not say which number that is.
+    /// Its number in the lines and messages. Not `u8::from`, which would not say which number that is; and a method of each enum that
+    /// has numbers, since a trait over them would say no more.
     pub fn number(self) -> u8
         ensures { result ≡ number_of self }
     {
@@ -108,7 +109,7 @@ impl Votes {
         exchange.ask.map(|ask| ask.number)
     }
 
-    /// Takes an answer to the last ask of a time server.
+    /// Takes an answer to the last ask of a time server. Its three parts are no struct, which would be made only to be taken apart here.
     pub fn answer(
         &mut self,
         server: usize,

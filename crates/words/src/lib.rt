@@ -48,7 +48,8 @@ fn first_word(line: &[u8]) -> (&[u8], Option<&[u8]>)
 }
 
 /// The words of a line that have not been read yet.
-// Not the iterator of std's `split`: a field would have to name its closure's type, which has no name.
+// Not the iterator of std's `split`: a field would have to name its closure's type, which has no name; and the gate refuses to hand
+// out a function pointer made in its place.
 #[derive(Drop)]
 pub struct Words<'a> {
     // The whole line before the first word, and then what stands behind the space that ended the last one; nothing where none did.

@@ -49,7 +49,8 @@ impl From<AllocError> for NotMade {
 }
 
 impl NotMade {
-    /// Its number in the lines and messages. A method of each enum that has numbers, since a trait over them would say no more.
+    /// Its number in the lines and messages. Not `u8::from`, which would not say which number that is; and a method of each enum that
+    /// has numbers, since a trait over them would say no more.
     pub fn number(self) -> u8
         ensures { result ≡ number_of self }
     {

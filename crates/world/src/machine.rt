@@ -1,5 +1,5 @@
 //! One machine of a world, with the true times of its exchanges beside it. The machine itself never sees those; they are noted
-//! because the promise speaks of them.
+//! because the promise speaks of them. Each call says what it answers and leaves behind, since a reader of one call looks for it there.
 ghost use Rattle.std.specs.Prelude.{◌≡◌, true, false, MatchOption};
 ghost use Rattle.world.specs.Step.{made, machine_reply, machine_after};
 ghost use Rattle.votes.specs.Exchanges.{valid_setup, last_number};
@@ -62,6 +62,7 @@ impl Machine {
         Ok(Reply::Asked(number))
     }
 
+    // the three parts of an answer are no struct, which would be taken apart by the next call
     fn answer(
         &mut self,
         at: Reading,

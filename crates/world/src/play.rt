@@ -1,4 +1,4 @@
-//! The calls of a world. A refusal changes nothing, as `play` says.
+//! The calls of a world. A refusal changes nothing; each call says so itself, since a reader of one call looks for it there.
 ghost use Rattle.std.specs.Prelude.{◌≡◌, IfOk, OnErr, MatchResult};
 ghost use Rattle.world.specs.Promise.{Reached, SpanTrue, SpansHold};
 ghost use Rattle.world.specs.Step.{IsStart, Refused, last_ask, reply_of, step};
@@ -10,7 +10,7 @@ use std::alloc::Global;
 use votes::types::{Refusal, Setup};
 
 impl World {
-    // The world of a stage that nothing has happened on: no action led to it.
+    // The world of a stage that nothing has happened on: the empty list of actions led to it.
     fn at_start(setups: &[Setup], stage: Stage) -> World
         requires { IsStart setups.now stage }
         ensures value { result ≡ stage }
@@ -36,7 +36,8 @@ impl World {
         self.stage.time
     }
 
-    /// The number of the last ask that a machine made of a time server, if both are there and it was asked.
+    /// The number of the last ask that a machine made of a time server, if both are there and it was asked. The two are no struct, since
+    /// each is looked up apart.
     pub fn last_ask(&self, machine: usize, server: usize) -> Option<u32>
         ensures { result ≡ last_ask self.now machine server }
     {

@@ -1,4 +1,5 @@
-//! The machines of a world and the true time, with the actions played on them.
+//! The machines of a world and the true time, with the actions played on them. Each call says what it answers and leaves behind, since
+//! a reader of one call looks for it there.
 ghost use Rattle.std.specs.Prelude.{◌≡◌, true, vec_items, MatchResult};
 ghost use Rattle.std.specs.List.{list_all};
 ghost use Rattle.votes.specs.Exchanges.{valid_setup};
@@ -92,7 +93,8 @@ impl Stage {
         }
     }
 
-    // The number of the last ask that a machine made of a time server, if both are there and it was asked.
+    // The number of the last ask that a machine made of a time server, if both are there and it was asked. The two are no struct, since
+    // each is looked up apart.
     pub(crate) fn last_ask(&self, machine: usize, server: usize) -> Option<u32>
         ensures { result ≡ last_ask self.now machine server }
     {
