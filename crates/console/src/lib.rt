@@ -121,6 +121,12 @@ mod tests {
     }
 
     #[test]
+    fn arguments_are_handed_on(rt: HostRuntime) -> Result<(), Fail> {
+        assert!(rt; arguments(&rt, "usage")?.is_some());
+        Ok(())
+    }
+
+    #[test]
     fn lines_and_their_ends(rt: HostRuntime) -> Result<(), Fail> {
         let heap = rt.alloc();
         answered(&rt, heap, b"", b"")?;
