@@ -1,1 +1,2 @@
 pub mod Heard
+mod Whole

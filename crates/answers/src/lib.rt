@@ -9,16 +9,17 @@
 //! What is written of an answer is its `Display`.
 #![tactic(auto)]
 
-ghost use Rattle.std.specs.Prelude.{◌≡◌, ◌++◌, is_ok, if◌then◌else◌, Some, decimal};
+ghost use Rattle.std.specs.Prelude.{◌≡◌, ℕ, ◌≤◌, List, [], ◌++◌, take, is_ok, if◌then◌else◌, Some, IfSome, decimal};
 ghost use Rattle.answers.specs.Answers.{reply_words, said_words, spoken};
 ghost use Rattle.answers.specs.Hears.{ReadsBack};
 ghost use Rattle.words.specs.Numbers.{number_of};
 ghost use Rattle.words.specs.Words.{joined};
 
 use clocks::growth::Span;
-use itoa::Buffer;
 use std::alloc::AllocError;
 use std::fmt;
+use std::fmt::Write;
+use std::marker::Model;
 
 /// What is said in answer to a request.
 #[derive(Clone, Copy, PartialEq, Eq, Debug)]
@@ -74,14 +75,78 @@ impl fmt::Display for Reply {
     }
 }
 
+// Room for the longest answer: four numbers of 20 digits, `span`, a colon, four spaces and a newline are 90 bytes.
+const LINE: usize = 96;
+
+// A text that is being made, on the stack, so that nothing but what it is appended to wants memory.
+#[derive(Drop)]
+struct Line {
+    bytes: [u8; LINE],
+    len: usize,
+}
+
+// In contracts it is what was written so far.
+impl Model for Line {
+    ghost Value = { List ℕ };
+
+    ghost view = { λ line. take line.len line.bytes };
+
+    ghost invariant = { λ line. line.len ≤ 96 };
+}
+
+impl Line {
+    fn new() -> Line
+        ensures { result ≡ [] }
+    {
+        Line {
+            bytes: [0; LINE],
+            len: 0,
+        }
+    }
+
+    fn as_bytes(&self) -> &[u8]
+        ensures { result.now ≡ self.now }
+    {
+        &self.bytes[..self.len]
+    }
+}
+
+impl fmt::Write for Line {
+    ghost write_str_gives = { λ line text after. after ≡ line ++ text };
+
+    fn write_str(&mut self, text: &str) -> fmt::Result {
+        let end = self.len + text.len();
+        if end > LINE {
+            return Err(fmt::Error);
+        }
+        self.bytes[self.len..end].copy_from_slice(text.as_bytes());
+        self.len = end;
+        Ok(())
+    }
+}
+
+// Appends what a value is printed as: made first and appended whole, since no contract says what a `write!` that fails leaves behind.
+fn put<D: fmt::Display>(out: &mut Vec<u8>, value: &D) -> Result<(), AllocError>
+    ensures { IfSome (D.output value.now) (λ text. out.new.items ≡ (if is_ok result then out.old.items ++ text else out.old.items)) }
+{
+    let mut line = Line::new();
+    match line.write(value) {
+        Ok(()) => out.extend_from_slice(line.as_bytes()),
+        // longer than any answer is, which no contract says
+        Err(fmt::Error) => {
+            let text = format!(in *out.allocator(); "{value}")?;
+            out.extend_from_slice(text.as_bytes())
+        }
+    }
+}
+
 /// Appends a number in decimal, with no zeros in front. Where memory is wanting, `out` is as it was.
 #[tactic(auto, using(words::proofs::Writes::numbers_read_back_lem))]
 pub fn put_number(out: &mut Vec<u8>, n: u64) -> Result<(), AllocError>
     ensures items { out.new.items ≡ (if is_ok result then out.old.items ++ decimal n else out.old.items) }
     ensures reads { number_of (decimal n) ≡ Some n }
 {
-    // in a buffer of its own, so that nothing but `out` can want memory
-    out.extend_from_slice(Buffer::new().format(n).as_bytes())
+    put(out, &n)
 }
 
 /// Appends a word. Where memory is wanting, `out` is as it was.
@@ -97,9 +162,7 @@ pub fn put_reply(out: &mut Vec<u8>, reply: Reply) -> Result<(), AllocError>
     ensures items { out.new.items ≡ (if is_ok result then out.old.items ++ spoken reply else out.old.items) }
     ensures reads { ReadsBack reply }
 {
-    // made first and appended whole, since no contract says what a `write!` that fails leaves in `out`
-    let line = format!(in *out.allocator(); "{reply}\n")?;
-    out.extend_from_slice(line.as_bytes())
+    put(out, &format_args!("{reply}\n"))
 }
 
 #[cfg(test)]

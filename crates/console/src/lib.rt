@@ -11,7 +11,7 @@ ghost use Rattle.std.specs.Prelude.{◌≡◌, ◌↔◌, IsTrue, IfOk, IfSome, 
 ghost use Rattle.std.specs.Io.BufRead.{strip_last};
 ghost use Rattle.console.specs.Arguments.{AsksForHelp};
 
-use anyhow::Context;
+use anyhow::anyhow;
 use std::alloc::{AllocError, Global};
 use std::env;
 use std::io::{BufRead, BufReader, Read, Write};
@@ -64,7 +64,7 @@ pub fn serve<R: Read + Drop, W: Write, P: Program>(
         line.clear();
         let read = input
             .read_until(b'\n', &mut line)
-            .context("the input cannot be read")?;
+            .map_err(|error| anyhow!("the input cannot be read: {error}"))?;
         if read == 0 {
             break;
         }
@@ -72,22 +72,23 @@ pub fn serve<R: Read + Drop, W: Write, P: Program>(
         if !input.buffer().contains(&b'\n') {
             output
                 .write_all(out.as_slice())
-                .context("the answers cannot be written")?;
+                .map_err(|error| anyhow!("the answers cannot be written: {error}"))?;
             out.clear();
         }
     }
     Ok(())
 }
 
-/// The status that a program ends with. What went wrong, if anything did, is said first, in one sentence on standard error.
-pub fn report(rt: &HostRuntime, program: &str, ended: anyhow::Result<()>) -> ExitCode
-    ensures { result ≡ (if is_ok ended then ExitCode.SUCCESS else ExitCode.FAILURE) }
+/// The status that a program ends with. What went wrong, if anything did, is said first, in one sentence on standard error; `ended` stays
+/// with the caller.
+pub fn report(rt: &HostRuntime, program: &str, ended: &anyhow::Result<()>) -> ExitCode
+    ensures { result ≡ (if is_ok ended.now then ExitCode.SUCCESS else ExitCode.FAILURE) }
 {
     match ended {
         Ok(()) => ExitCode::SUCCESS,
         Err(wrong) => {
             // where nobody takes what is said, the status still tells
-            let _ = eprintln!(rt; "{program}: {wrong:#}");
+            let _ = eprintln!(rt; "{program}: {wrong}");
             ExitCode::FAILURE
         }
     }

@@ -7,6 +7,7 @@ use Rattle.clocks.specs.declared.counting.Drift.TheVariants.{Fast, Slow}
 use Rattle.clocks.specs.Dials.{parts_of}
 use Rattle.lines.specs.declared.scripts.ScriptRequest.{ScriptRequest}
 use Rattle.lines.specs.declared.scripts.ScriptRequest.TheVariants.{World, Pass, Clock, Ask, Answer, Honest, Span}
+use Rattle.lines.specs.Lines.{ReadsBack, line_by}
 use Rattle.words.specs.Numbers.{number_of, one_of, numbers_of}
 
 -- what the words behind each keyword are read as
@@ -72,3 +73,7 @@ ScriptFits (Ask machine server) = (machine < 2 ^ 64) × (server < 2 ^ 64)
 ScriptFits (Answer machine server span) = (machine < 2 ^ 64) × (server < 2 ^ 64) × (span.low < 2 ^ 64) × (span.high < 2 ^ 64)
 ScriptFits (Honest machine server less more) = (machine < 2 ^ 64) × (server < 2 ^ 64) × (less < 2 ^ 64) × (more < 2 ^ 64)
 ScriptFits (Span machine) = machine < 2 ^ 64
+
+-- the line of every request reads back as that request
+abbrev pub ScriptsReadBack : Type 0
+ScriptsReadBack = ReadsBack script_words ScriptFits (line_by script_request)

@@ -4,6 +4,7 @@ use Rattle.std.specs.Option.{option_map}
 use Rattle.std.specs.Str.{bytes_eq}
 use Rattle.lines.specs.declared.spans.SpanRequest.{SpanRequest}
 use Rattle.lines.specs.declared.spans.SpanRequest.TheVariants.{Asked, Answer, Now}
+use Rattle.lines.specs.Lines.{ReadsBack, line_by}
 use Rattle.words.specs.Numbers.{numbers_of}
 
 -- what the words behind each keyword are read as
@@ -35,3 +36,7 @@ abbrev pub SpanFits : SpanRequest → Type 0
 SpanFits (Asked server clock) = (server < 2 ^ 64) × (clock < 2 ^ 64)
 SpanFits (Answer server clock span) = (server < 2 ^ 64) × (clock < 2 ^ 64) × (span.low < 2 ^ 64) × (span.high < 2 ^ 64)
 SpanFits (Now clock) = clock < 2 ^ 64
+
+-- the line of every request reads back as that request
+abbrev pub SpansReadBack : Type 0
+SpansReadBack = ReadsBack span_words SpanFits (line_by span_request)

@@ -1,9 +1,9 @@
 //! The lines of the program that plays a script.
 ghost use Rattle.std.specs.Prelude.{◌≡◌};
-ghost use Rattle.lines.specs.Scripts.{ScriptFits, answer_of, ask_of, clock_of, drift_of, honest_of, pass_of, script_request, script_words, span_of, world_of};
+ghost use Rattle.lines.specs.Scripts.{ScriptFits, ScriptsReadBack, answer_of, ask_of, clock_of, drift_of, honest_of, pass_of, script_request, script_words, span_of, world_of};
 ghost use Rattle.lines.specs.ScriptLaws.{script_laws};
 
-use super::Request;
+use super::{Request, requests_read_back};
 use clocks::counting::Drift;
 use clocks::growth::Span;
 use words::Words;
@@ -144,4 +144,11 @@ fn span(words: Words<'_>) -> Option<ScriptRequest>
 {
     let [machine] = words.numbers::<1>()?;
     Some(ScriptRequest::Span { machine })
+}
+
+/// Carries the law that the line of every request reads back as that request.
+pub fn scripts_read_back()
+    ensures { ScriptsReadBack }
+{
+    requests_read_back::<ScriptRequest>();
 }

@@ -1,9 +1,9 @@
 //! The lines of the program that works out the span of one machine.
 ghost use Rattle.std.specs.Prelude.{◌≡◌};
-ghost use Rattle.lines.specs.Spans.{SpanFits, answer_of, asked_of, now_of, span_request, span_words};
+ghost use Rattle.lines.specs.Spans.{SpanFits, SpansReadBack, answer_of, asked_of, now_of, span_request, span_words};
 ghost use Rattle.lines.specs.SpanLaws.{span_laws};
 
-use super::Request;
+use super::{Request, requests_read_back};
 use clocks::growth::Span;
 use words::Words;
 
@@ -58,4 +58,11 @@ fn now(words: Words<'_>) -> Option<SpanRequest>
 {
     let [clock] = words.numbers::<1>()?;
     Some(SpanRequest::Now { clock })
+}
+
+/// Carries the law that the line of every request reads back as that request.
+pub fn spans_read_back()
+    ensures { SpansReadBack }
+{
+    requests_read_back::<SpanRequest>();
 }

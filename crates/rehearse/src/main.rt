@@ -59,5 +59,5 @@ fn run(rt: &HostRuntime) -> anyhow::Result<()> {
 
 // `report` has said what went wrong, so `main` returns the status alone: a returned error would be printed a second time.
 fn main(rt: HostRuntime) -> ExitCode {
-    report(&rt, "rehearse", run(&rt))
+    report(&rt, "rehearse", &run(&rt))
 }

@@ -9,6 +9,7 @@ ghost use Rattle.votes.specs.Exchanges.{valid_setup, IsOpened};
 ghost use Rattle.lines.specs.Lines.{line_by};
 ghost use Rattle.lines.specs.Spans.{span_request};
 ghost use Rattle.span.specs.Respond.{said_of, after_of, heard, heard_after};
+ghost use Rattle.span.specs.Asked.{setup_asked, IsMadeFrom, NoneIsMade};
 
 use answers::{Reply, Said, put_reply};
 use anyhow::Context;
@@ -96,15 +97,18 @@ fn made(setup: Setup) -> Option<Machine>
 }
 
 // The machine that the arguments ask for, if they are three numbers in range.
-fn asked_for(args: &[String]) -> Option<Machine> {
+fn asked_for(args: &[String]) -> Option<Machine>
+    ensures { MatchOption result (NoneIsMade (setup_asked args.now)) (λ m. IsMadeFrom (setup_asked args.now) m.votes) }
+{
     let [servers, faulty, rate] = args else {
         return None;
     };
-    made(Setup::numbered(
+    let setup = Setup::numbered(
         number(servers.as_bytes())?,
         number(faulty.as_bytes())?,
         number(rate.as_bytes())?,
-    ))
+    );
+    made(setup)
 }
 
 fn run(rt: &HostRuntime) -> anyhow::Result<()> {
@@ -117,5 +121,5 @@ fn run(rt: &HostRuntime) -> anyhow::Result<()> {
 
 // `report` has said what went wrong, so `main` returns the status alone: a returned error would be printed a second time.
 fn main(rt: HostRuntime) -> ExitCode {
-    report(&rt, "span", run(&rt))
+    report(&rt, "span", &run(&rt))
 }

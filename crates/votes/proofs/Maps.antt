@@ -1,20 +1,12 @@
--- What an array's `map` gives.
-use Rattle.std.proofs.Common.{◌≡◌, ℕ, zero, suc, ◌+◌, List, ◌∷◌, map, length, drop, sym, ap, ◌∙◌, subst, arith}
-use Rattle.std.specs.Array.{IsMapOf, MapsFrom}
-use Rattle.std.specs.Fn.{Called}
-use Rattle.std.proofs.lemmas.List.{drop_all, drop_more}
-use denote.Param.Members.{Mut}
+-- A list that is filled place by place with what a function gives of another list's elements.
+use Rattle.std.proofs.Common.{◌≡◌, ℕ, ◌+◌, ◌<◌, ◌≤◌, List, [], ◌∷◌, ◌++◌, map, length, get_or, take, set, sym, ap, ◌∙◌, add-one, take_all, take-suc-set}
+use Rattle.std.proofs.lemmas.List.{map_more}
 
--- every call leaves the closure as it was, and gives h of its argument
-module _ {F A B : Type 0} (g : Mut F (A × Unit {0}) B) (h : A → B) (f : F) (same : (x : A) (y : B) (q : F) → Called g f (x, tt) y q → (y ≡ h x) × (q ≡ f)) (xs : List A) (ys : List B) where
-  map_from : (n i : ℕ) → i + n ≡ length xs → i + n ≡ length ys → MapsFrom g f xs ys i n → drop i ys ≡ map h (drop i xs)
-  map_from zero i x y m = drop_all i ys (omega arith) ∙ sym (ap (map h) (drop_all i xs (omega arith)))
-  map_from (suc n) i x y m =
-      let s = same m.1 m.2 m.0 m.5 in
-      let rest = map_from n (i + 1) (omega arith) (omega arith) (subst (λ p. MapsFrom g p xs ys (i + 1) n) s.1 m.6) in
-      drop_more ys i m.2 (omega arith)
-      ∙ (ap (λ z. z ∷ drop (i + 1) ys) (m.4.0 ∙ s.0) ∙ (ap (λ l. h m.1 ∷ l) rest
-      ∙ sym (ap (map h) (drop_more xs i m.1 (omega arith) ∙ ap (λ z. z ∷ drop (i + 1) xs) m.3.0))))
+module _ {X Y : Type 0} (f : X → Y) (xs : List X) (ys : List Y) where
+  pub fill_more : (i : ℕ) (d : X) (y : Y) → i < length xs → i < length ys → take i ys ≡ map f (take i xs) → y ≡ f (get_or xs i d) →
+      take (i + 1) (set ys i y) ≡ map f (take (i + 1) xs)
+  fill_more i d y hx hy e v =
+      ap (λ n. take n (set ys i y)) (add-one i) ∙ (take-suc-set ys i y hy ∙ (ap (λ l. l ++ (y ∷ [])) e ∙ (ap (λ z. map f (take i xs) ++ (z ∷ [])) v ∙ sym (map_more f xs i d hx))))
 
-  pub map_is : (n : ℕ) → length xs ≡ n → IsMapOf g f xs ys n → ys ≡ map h xs
-  map_is n e m = map_from n 0 (omega (arith, e)) (let l = m.long in omega arith) m.each
+  pub fill_all : (n : ℕ) → length xs ≤ n → length ys ≤ n → take n ys ≡ map f (take n xs) → ys ≡ map f xs
+  fill_all n hx hy e = sym (take_all n ys hy) ∙ (e ∙ ap (map f) (take_all n xs hx))

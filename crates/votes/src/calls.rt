@@ -80,6 +80,7 @@ impl Votes {
     fn fits(&self, server: usize, clock: u64) -> bool
         ensures value { result ≡ fits self.now server clock }
         ensures there { IsTrue result → server < SERVERS }
+        ensures ranges { IsInRange self.now }
     {
         server < self.servers && clock >= self.latest
     }
@@ -90,6 +91,7 @@ impl Votes {
         ensures after { self.new ≡ ask_after self.old server clock }
         ensures there { OnOk result (server < SERVERS) }
         ensures refused { OnErr result (self.new ≡ self.old) }
+        ensures ranges { IsInRange self.new }
     {
         if !self.fits(server, clock) {
             return Err(Refusal::Invalid);
@@ -121,6 +123,7 @@ impl Votes {
         ensures after { self.new ≡ answer_after self.old server number span clock }
         ensures there { OnOk result (server < SERVERS) }
         ensures refused { OnErr result (self.new ≡ self.old) }
+        ensures ranges { IsInRange self.new }
     {
         if !self.fits(server, clock) || span.low > span.high {
             return Err(Refusal::Invalid);
@@ -142,8 +145,12 @@ impl Votes {
     fn grown(&self, clock: u64) -> [Option<Span>; SERVERS]
         ensures { result ≡ map (grown_exchange self.now.rate clock) self.now.exchanges }
     {
-        let rate = self.rate;
-        self.exchanges.map(|exchange| exchange.grown(rate, clock))
+        // place by place: `map` of an array would copy all exchanges first
+        let mut spans = [None; SERVERS];
+        for (server, exchange) in self.exchanges.iter().enumerate() {
+            spans[server] = exchange.grown(self.rate, clock);
+        }
+        spans
     }
 
     // The machine's span out of the grown spans.
@@ -174,6 +181,7 @@ impl Votes {
         ensures reply { result ≡ span_reply self.old clock }
         ensures after { self.new ≡ span_after self.old clock }
         ensures refused { OnErr result (self.new ≡ self.old) }
+        ensures ranges { IsInRange self.new }
         ensures laws { MatchResult result (λ s. Lawful self.old clock s) (λ e. e ≡ Refusal.NoSpan → NoVotes self.old clock) }
     {
         if clock < self.latest {

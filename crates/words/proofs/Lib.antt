@@ -1,7 +1,7 @@
 pub mod Cuts
 pub mod Fields
 pub mod Writes
-pub mod Parses
+pub mod Digits
 pub mod Joins
 pub mod Plainly
 pub mod Good

@@ -1,8 +1,9 @@
 -- Numbers as words.
-use Rattle.std.specs.Prelude.{◌≡◌, ℕ, ◌^◌, Bool, cond, ◌&&◌, List, [], ◌∷◌, length, Some, None, decimal, Option, nat_lt, slice_index, ◌==◌}
+use Rattle.std.specs.Prelude.{◌≡◌, ℕ, ◌+◌, ◌-◌, ◌*◌, ◌^◌, Bool, cond, ◌&&◌, List, [], ◌∷◌, length, Some, None, decimal, Option, nat_lt, slice_index, ◌==◌}
+use Rattle.std.specs.Char.{is_ascii_digit}
 use Rattle.std.specs.Option.{option_map, option_and_then}
 use Rattle.std.specs.Str.{all_ascii_digits}
-use Rattle.std.specs.Str.Parse.{digits_value}
+use Rattle.std.specs.Str.Parse.{digits_value, digits_value_after}
 
 -- one or more digits (48 to 57) and nothing else, of a value below 2 ^ 64; `digits_value 10` is the number that they write in base ten
 abbrev pub is_number : List ℕ → Bool
@@ -11,6 +12,14 @@ is_number w = nat_lt 0 (length w) && (all_ascii_digits w && nat_lt (digits_value
 -- the number that a word is, if it is one
 abbrev pub number_of : List ℕ → Option ℕ
 number_of w = cond (is_number w) (Some (digits_value 10 w)) None
+
+-- the number n with one more digit behind it, if the byte b is one and the number is below 2 ^ 64
+abbrev pub next_digit : ℕ → ℕ → Option ℕ
+next_digit n b = cond (is_ascii_digit b && nat_lt (n * 10 + (b - 48)) (2 ^ 64)) (Some (n * 10 + (b - 48))) None
+
+-- the number that a word is behind digits of the value n, which may be nothing
+abbrev pub read_from : ℕ → List ℕ → Option ℕ
+read_from n w = cond (all_ascii_digits w && nat_lt (digits_value_after 10 n w) (2 ^ 64)) (Some (digits_value_after 10 n w)) None
 
 -- the first of the words is read, and the result is the number that it is; without a word there is no number
 abbrev pub NextNumber : List (List ℕ) → List (List ℕ) → Option ℕ → Type 0

@@ -12,21 +12,42 @@
 ghost use Rattle.std.specs.Prelude.{◌≡◌, ◌==◌, ◌∷◌, position};
 ghost use Rattle.std.specs.Iterator.{YieldsFirstRef, item_count};
 ghost use Rattle.words.specs.Laws.{LinesReadBack, NoZeroInFront, NumbersReadBack, WordsReadBack};
-ghost use Rattle.words.specs.Numbers.{NextNumber, number_of, numbers_of};
+ghost use Rattle.words.specs.Numbers.{NextNumber, next_digit, number_of, numbers_of, read_from};
 ghost use Rattle.words.specs.Words.{left, words_of};
 
 use std::marker::Model;
 
+// The number `n` with one more digit behind it.
+fn with_digit(n: u64, b: u8) -> Option<u64>
+    ensures { result ≡ next_digit n b }
+{
+    let digit = match b {
+        b'0'..=b'9' => b - b'0',
+        _ => return None,
+    };
+    n.checked_mul(10)?.checked_add(u64::from(digit))
+}
+
+// The value of a word of digits. Not std's `parse`, which takes a plus in front, and reads a word whole as text even where its first
+// byte is no digit.
+fn value(word: &[u8]) -> Option<u64>
+    ensures { result ≡ read_from 0 word.now }
+{
+    let mut n = 0;
+    for b in word {
+        n = with_digit(n, *b)?;
+    }
+    Some(n)
+}
+
 /// The number that a word is, if it is one.
-#[tactic(auto, using(crate::proofs::Parses::no_text, crate::proofs::Parses::parsed))]
 pub fn number(word: &[u8]) -> Option<u64>
     ensures { result ≡ number_of word.now }
 {
-    // `parse` takes a plus in front of the digits too
-    if word.starts_with(b"+") {
+    if word.is_empty() {
         return None;
     }
-    str::from_utf8(word).ok()?.parse().ok()
+    value(word)
 }
 
 // Where the first space of a line stands, if there is one.
@@ -36,9 +57,9 @@ fn first_space(line: &[u8]) -> Option<usize>
     line.iter().position(|b| *b == b' ')
 }
 
-// The first word of a line, and what stands behind the space that ends it.
+/// The first word of a line, and what stands behind the space that ends it.
 #[tactic(auto, using(crate::proofs::Cuts::cut_at, crate::proofs::Cuts::cut_none))]
-fn first_word(line: &[u8]) -> (&[u8], Option<&[u8]>)
+pub fn first_word(line: &[u8]) -> (&[u8], Option<&[u8]>)
     ensures { words_of line.now ≡ result.0.now ∷ left result.1 }
 {
     match first_space(line) {
@@ -103,7 +124,8 @@ impl<'a> Words<'a> {
         for n in numbers.iter_mut() {
             *n = self.next_number()?;
         }
-        match self.next() {
+        // a word too many is not looked at, however long it is
+        match self.rest {
             None => Some(numbers),
             Some(_) => None,
         }

@@ -39,7 +39,8 @@ impl World {
     /// The number of the last ask that a machine made of a time server, if both are there and it was asked. The two are no struct, since
     /// each is looked up apart.
     pub fn last_ask(&self, machine: usize, server: usize) -> Option<u32>
-        ensures { result ≡ last_ask self.now machine server }
+        ensures value { result ≡ last_ask self.now machine server }
+        ensures reached { ∥ Reached self.now ∥₁ }
     {
         self.stage.last_ask(machine, server)
     }
