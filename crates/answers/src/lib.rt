@@ -199,4 +199,39 @@ mod tests {
         );
         Ok(())
     }
+
+    #[test]
+    fn the_longest_line(rt: HostRuntime) -> Result<(), Fail> {
+        let mut out = Vec::new(rt.alloc());
+        let most = 18446744073709551615;
+        put_reply(
+            &mut out,
+            Reply::Machine {
+                time: most,
+                machine: most,
+                said: Said::Span(Span {
+                    low: most,
+                    high: most,
+                }),
+            },
+        )?;
+        assert!(rt;
+            out.as_slice()
+                == b"18446744073709551615: 18446744073709551615 span 18446744073709551615 18446744073709551615\n".as_slice()
+        );
+        Ok(())
+    }
+
+    // A text for which a `Line` has no room is appended whole, too.
+    #[test]
+    fn a_longer_text(rt: HostRuntime) -> Result<(), Fail> {
+        let mut out = Vec::new(rt.alloc());
+        put_number(&mut out, 70)?;
+        let text =
+            "0123456789012345678901234567890123456789012345678901234567890123456789012345678901234567890123456789";
+        put(&mut out, &text)?;
+        assert!(rt; out.len() == 102);
+        assert!(rt; out.ends_with(text.as_bytes()));
+        Ok(())
+    }
 }

@@ -4,7 +4,7 @@
 //! gets it; while whole lines are at hand already, they are answered together.
 //!
 //! No contract here says what is read or written: the programs' runs on stored input show that. The contracts say what a line is without
-//! its newline, that arguments which ask for help are not handed on, and which status a program ends with.
+//! its newline, that arguments which ask for help are not handed on, and which status `report` has a program end with.
 #![tactic(auto)]
 
 ghost use Rattle.std.specs.Prelude.{◌≡◌, ◌↔◌, IsTrue, IfOk, IfSome, is_ok, if◌then◌else◌};

@@ -4,12 +4,12 @@
 //! machine does from `votes`, and how an answer is written from `answers`: here is only which call a request makes (`respond`).
 #![tactic(auto)]
 
-ghost use Rattle.std.specs.Prelude.{◌≡◌, false, MatchOption};
+ghost use Rattle.std.specs.Prelude.{◌≡◌, false, IfSome, MatchOption};
 ghost use Rattle.votes.specs.Exchanges.{valid_setup, IsOpened};
 ghost use Rattle.lines.specs.Lines.{line_by};
 ghost use Rattle.lines.specs.Spans.{span_request};
 ghost use Rattle.span.specs.Respond.{said_of, after_of, heard, heard_after};
-ghost use Rattle.span.specs.Asked.{setup_asked, IsMadeFrom, NoneIsMade};
+ghost use Rattle.span.specs.Asked.{setup_asked, IsMadeFrom};
 
 use answers::{Reply, Said, put_reply};
 use anyhow::Context;
@@ -98,7 +98,7 @@ fn made(setup: Setup) -> Option<Machine>
 
 // The machine that the arguments ask for, if they are three numbers in range.
 fn asked_for(args: &[String]) -> Option<Machine>
-    ensures { MatchOption result (NoneIsMade (setup_asked args.now)) (λ m. IsMadeFrom (setup_asked args.now) m.votes) }
+    ensures { MatchOption result (IfSome (setup_asked args.now) (λ s. valid_setup s ≡ false)) (λ m. IsMadeFrom (setup_asked args.now) m.votes) }
 {
     let [servers, faulty, rate] = args else {
         return None;

@@ -8,7 +8,7 @@ use Rattle.std.proofs.lemmas.Bool.{and_parts, and_right, cond-true, cond-false, 
 use Rattle.std.proofs.lemmas.Str.{digit_value_digit}
 use Rattle.words.specs.Numbers.{next_digit, read_from}
 
-value_ge : (n : ℕ) (bs : List ℕ) → n ≤ digits_value_after 10 n bs
+pub value_ge : (n : ℕ) (bs : List ℕ) → n ≤ digits_value_after 10 n bs
 value_ge n [] = omega arith
 value_ge n (b ∷ bs) = omega (arith, value_ge (n * 10 + digit_value b) bs)
 

@@ -59,9 +59,13 @@ full size start rest ns i h k e r =
     sym (cond-true (eqb (length start) size) (all_numbers start) None (eq-eqb (length start) size (omega (arith, r.count, r.room, ap length e)))
     ∙ r.numbers ∙ ap (λ ws. option_map (λ ms. take i ns ++ ms) (all_numbers ws)) e ∙ ap Some (append-nil (take i ns) ∙ take_all i ns (omega (arith, r.room))))
 
-pub over : (size : ℕ) (start rest : List (List ℕ)) (line ns : List ℕ) (i : ℕ) → size ≤ i → i ≤ size → rest ≡ words_of line → Read size start rest ns i → None ≡ numbers_of size start
-over size start rest line ns i h k e r = otherwise size start (λ s. omega (arith, r.count, r.room, ap length e, length-slice_split (λ b. eqb b 32) line))
+pub over : (size : ℕ) (start rest ws : List (List ℕ)) (w ns : List ℕ) (i : ℕ) → size ≤ i → i ≤ size → rest ≡ w ∷ ws → Read size start rest ns i → None ≡ numbers_of size start
+over size start rest ws w ns i h k e r = otherwise size start (λ s. omega (arith, r.count, r.room, ap length e))
 
 -- a line has a word
 pub has_word : (line : List ℕ) → words_of line ≡ [] → ⊥
 has_word line e = omega (arith, ap length e, length-slice_split (λ b. eqb b 32) line)
+
+-- the same, of what stands behind a space
+pub over_line : (size : ℕ) (start rest : List (List ℕ)) (line ns : List ℕ) (i : ℕ) → size ≤ i → i ≤ size → rest ≡ words_of line → Read size start rest ns i → None ≡ numbers_of size start
+over_line size start rest line ns i h k e r = otherwise size start (λ s. omega (arith, r.count, r.room, ap length e, length-slice_split (λ b. eqb b 32) line))

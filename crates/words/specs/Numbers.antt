@@ -13,7 +13,7 @@ is_number w = nat_lt 0 (length w) && (all_ascii_digits w && nat_lt (digits_value
 abbrev pub number_of : List ℕ → Option ℕ
 number_of w = cond (is_number w) (Some (digits_value 10 w)) None
 
--- the number n with one more digit behind it, if the byte b is one and the number is below 2 ^ 64
+-- the number n with one more digit behind it, if the byte b is a digit and the number is below 2 ^ 64
 abbrev pub next_digit : ℕ → ℕ → Option ℕ
 next_digit n b = cond (is_ascii_digit b && nat_lt (n * 10 + (b - 48)) (2 ^ 64)) (Some (n * 10 + (b - 48))) None
 

@@ -116,7 +116,7 @@ impl<'a> Words<'a> {
     }
 
     /// The words that are left, if they are exactly N numbers.
-    #[tactic(auto, using(crate::proofs::Fields::begun, crate::proofs::Fields::go_on, crate::proofs::Fields::stop, crate::proofs::Fields::full, crate::proofs::Fields::over))]
+    #[tactic(auto, using(crate::proofs::Fields::begun, crate::proofs::Fields::go_on, crate::proofs::Fields::stop, crate::proofs::Fields::full, crate::proofs::Fields::over_line))]
     pub fn numbers<const N: usize>(mut self) -> Option<[u64; N]>
         ensures { result ≡ numbers_of N self.entry }
     {
